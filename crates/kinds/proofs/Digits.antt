@@ -1,0 +1,93 @@
+-- The one rule is one to one, once over p and h: the digits of lane and element are those of the major and the minor number, put
+-- together in another order. Assumes nothing.
+use mathlib.Core.Path.{_≡_}
+use Prim.Native.Nat.{ℕ, _+_, _*_, _/_, _%_, _≤_, _<_}
+use native.Mathlib.Nat.{div-add-mod', mod-lt, div-lt-iff-lt-mul, div-le-self, le-trans}
+use native.Mathlib.Omega.{arith}
+use lib.Arith.{digits-div, digits-mod, digits-lt}
+use Rattle.kinds.specs.Rule.{major, minor, laneOf, elementOf}
+
+module _ (p h : ℕ) (p0 : 0 < p) (h0 : 0 < h) where
+  -- the digits of the major and the minor number
+  major-low : (l i : ℕ) → l < 32 → major p h l i % 8 ≡ l / 4
+  unfolding major
+  major-low l i lt = digits-mod (i / p % h) (omega arith)
+
+  major-high : (l i : ℕ) → l < 32 → major p h l i / 8 ≡ i / p % h
+  unfolding major
+  major-high l i lt = digits-div (i / p % h) (omega arith)
+
+  minor-low : (l i : ℕ) → minor p h l i % p ≡ i % p
+  unfolding minor
+  minor-low l i = digits-mod (i / p / h * 4 + l % 4) (mod-lt i p0)
+
+  minor-high : (l i : ℕ) → minor p h l i / p ≡ i / p / h * 4 + l % 4
+  unfolding minor
+  minor-high l i = digits-div (i / p / h * 4 + l % 4) (mod-lt i p0)
+
+  -- the digits of the lane and the element
+  lane-high : (x y : ℕ) → laneOf p x y / 4 ≡ x % 8
+  unfolding laneOf
+  lane-high x y = digits-div (x % 8) (omega arith)
+
+  lane-low : (x y : ℕ) → laneOf p x y % 4 ≡ y / p % 4
+  unfolding laneOf
+  lane-low x y = digits-mod (x % 8) (omega arith)
+
+  element-high : (x y : ℕ) → elementOf p h x y / p ≡ y / p / 4 * h + x / 8
+  unfolding elementOf
+  element-high x y = digits-div (y / p / 4 * h + x / 8) (mod-lt y p0)
+
+  element-low : (x y : ℕ) → elementOf p h x y % p ≡ y % p
+  unfolding elementOf
+  element-low x y = digits-mod (y / p / 4 * h + x / 8) (mod-lt y p0)
+
+  -- lane and element come back
+  pub lane-back : (l i : ℕ) → l < 32 → laneOf p (major p h l i) (minor p h l i) ≡ l
+  unfolding laneOf
+  lane-back l i lt =
+      rw (major-low l i lt, minor-high l i, digits-mod (i / p / h) {m = 4} {r = l % 4} (omega arith))
+      (omega arith)
+
+  pub element-back : (l i : ℕ) → l < 32 → elementOf p h (major p h l i) (minor p h l i) ≡ i
+  unfolding elementOf
+  element-back l i lt =
+      rw (minor-low l i, minor-high l i, major-high l i lt, digits-div (i / p / h) {m = 4} {r = l % 4} (omega arith), div-add-mod' (i / p) h)
+      (div-add-mod' i p)
+
+  -- the major and the minor number come back
+  pub major-back : (x y : ℕ) → x < h * 8 → major p h (laneOf p x y) (elementOf p h x y) ≡ x
+  unfolding major
+  major-back x y lt =
+      rw (element-high x y, lane-high x y, digits-mod (y / p / 4) {m = h} {r = x / 8} (omega arith))
+      (omega arith)
+
+  pub minor-back : (x y : ℕ) → x < h * 8 → minor p h (laneOf p x y) (elementOf p h x y) ≡ y
+  unfolding minor
+  minor-back x y lt =
+      rw (element-high x y, element-low x y, lane-low x y, digits-div (y / p / 4) {m = h} {r = x / 8} (omega arith), div-add-mod' (y / p) 4)
+      (div-add-mod' y p)
+
+  -- the bounds, with s spans of 4 * p minor numbers
+  pub major-lt : (l i : ℕ) → l < 32 → major p h l i < h * 8
+  unfolding major
+  major-lt l i lt = digits-lt (mod-lt (i / p) h0) (omega arith)
+
+  pub minor-lt : (s l i : ℕ) → i < s * h * p → minor p h l i < s * 4 * p
+  unfolding minor
+  minor-lt s l i lt =
+      digits-lt (digits-lt (div-lt-iff-lt-mul h0 .1 (div-lt-iff-lt-mul p0 .1 lt)) (omega arith)) (mod-lt i p0)
+
+  pub lane-lt : (x y : ℕ) → laneOf p x y < 32
+  unfolding laneOf
+  lane-lt x y = omega arith
+
+  pub group-lt : (s x y : ℕ) → x < h * 8 → y < s * 4 * p → y / p / 4 * h + x / 8 < s * h
+  group-lt s x y xl yl = digits-lt (div-lt-iff-lt-mul {k = 4} (omega arith) .1 (div-lt-iff-lt-mul p0 .1 yl)) (omega arith)
+
+  pub element-lt : (s x y : ℕ) → x < h * 8 → y < s * 4 * p → elementOf p h x y < s * h * p
+  unfolding elementOf
+  element-lt s x y xl yl = digits-lt (group-lt s x y xl yl) (mod-lt y p0)
+
+pub quotient-le : (i p h : ℕ) → i / p / h ≤ i
+quotient-le i p h = le-trans (div-le-self (i / p) h) (div-le-self i p)

@@ -1,0 +1,6 @@
+pub mod Digits
+pub mod Table
+pub mod Whole
+pub mod Judged
+pub mod Answers
+pub mod Promises

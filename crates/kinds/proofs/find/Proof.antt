@@ -1,0 +1,56 @@
+-- The layout was given or refused; either way the holder's answer follows from it, by major and minor number. Assumes nothing.
+use borrow.Author.Needs.{needs}
+use mathlib.Core.Path.{_≡_, sym, ap, _∙_}
+use mathlib.Core.Bool.{Bool}
+use Rattle.kinds.specs.Rule.{turn}
+use Rattle.kinds.specs.Answers.{findBy}
+use Rattle.kinds.proofs.Answers.{known-sane, known-found, find-refused}
+use Rattle.kinds.proofs.find.Statement.{statement}
+use Rattle.kinds.proofs.find.Tie as tie
+
+layout-of-requires : tie.Need-layout-of-requires
+layout-of-requires c κs = search needs
+
+enum-known-f : tie.Need-enum-known-f
+enum-known-f c = search needs
+
+find-in-requires : tie.Need-find-in-requires
+find-in-requires c κs = known-sane _ _ _ (c .before .before .before .before .layout-of .ensures) _ (c .before .before .f .given .1)
+
+find-in-requires-2 : tie.Need-find-in-requires-2
+find-in-requires-2 c κs = known-sane _ _ _ (c .before .before .before .before .layout-of .ensures) _ (c .before .before .f .given .1)
+
+enum-known-x : tie.Need-enum-known-x
+enum-known-x c = search needs
+
+returns : tie.Need-returns
+returns c =
+    let s = c .before .before .before .before .before in
+    let f = c .before .before .before .f .given .0 .0 in
+    c .find-in .ensures
+    ∙ ap (λ (t : Bool). findBy f (turn t (s .before .args .row .0, s .before .args .column .0))) (sym (c .before .if1 .taken))
+    ∙ known-found _ _ _ (s .layout-of .ensures) _ (c .before .before .before .f .given .1) _ _
+
+returns-2 : tie.Need-returns-2
+returns-2 c =
+    let s = c .before .before .before .before .before in
+    let f = c .before .before .before .f .given .0 .0 in
+    c .find-in2 .ensures
+    ∙ ap (λ (t : Bool). findBy f (turn t (s .before .args .row .0, s .before .args .column .0))) (sym (c .before .if1 .left))
+    ∙ known-found _ _ _ (s .layout-of .ensures) _ (c .before .before .before .f .given .1) _ _
+
+returns-3 : tie.Need-returns-3
+returns-3 c = find-refused _ _ _ (c .before .before .before .layout-of .ensures) _ (c .before .x .given .1) _ _
+
+pub find-spec : {M : Type 1} → statement M
+find-spec =
+    tie.close
+    (tie.spec
+    layout-of-requires
+    enum-known-f
+    find-in-requires
+    find-in-requires-2
+    enum-known-x
+    returns
+    returns-2
+    returns-3)

@@ -1,0 +1,60 @@
+-- Each role's layout is made of the numbers that the definition names. Assumes nothing.
+use borrow.Author.Needs.{needs}
+use mathlib.Core.Path.{_≡_, refl, sym, subst, _∙_}
+use mathlib.Core.Bool.{true, false}
+use Prim.Native.Nat.{ℕ, _<_}
+use native.Mathlib.Omega.{arith}
+use Rattle.kinds.specs.Kinds.{roleOf}
+use Rattle.kinds.specs.Rule.{sideOf, spread, layoutOf}
+use Rattle.kinds.specs.declared.Entry.{Entry}
+use Rattle.kinds.proofs.layout_in.Statement.{statement}
+use Rattle.kinds.proofs.layout_in.Tie as tie
+
+module _ (e : Entry) (r p : ℕ) where
+  as-A : r ≡ 0 → p ≡ sideOf (e .3) → spread (e .3) (e .5) p (e .0) (e .2) false ≡ layoutOf e (roleOf r)
+  as-A n s = rw (n, s) refl
+
+  as-B : r ≡ 1 → p ≡ sideOf (e .3) → spread (e .3) (e .6) p (e .1) (e .2) true ≡ layoutOf e (roleOf r)
+  as-B n s = rw (n, s) refl
+
+  as-C : r ≡ 2 → spread (e .4) (e .7) 2 (e .0) (e .1) false ≡ layoutOf e (roleOf r)
+  as-C n = rw n refl
+
+side-of-requires : tie.Need-side-of-requires
+side-of-requires c κs = search needs
+
+new-requires : tie.Need-new-requires
+new-requires c κs = subst (λ (p : ℕ). 0 < p) (sym (c .side-of .ensures)) (c .before .before .pre .1)
+
+returns : tie.Need-returns
+returns c = c .new .ensures ∙ as-B _ _ _ (c .before .before .if1 .taken) (c .before .side-of .ensures)
+
+new-requires-2 : tie.Need-new-requires-2
+new-requires-2 c κs = search needs
+
+returns-2 : tie.Need-returns-2
+returns-2 c = c .new2 .ensures ∙ as-C _ _ 2 (c .before .if2 .taken)
+
+side-of-requires-2 : tie.Need-side-of-requires-2
+side-of-requires-2 c κs = search needs
+
+new-requires-3 : tie.Need-new-requires-3
+new-requires-3 c κs = subst (λ (p : ℕ). 0 < p) (sym (c .side-of2 .ensures)) (c .before .before .before .pre .1)
+
+returns-3 : tie.Need-returns-3
+returns-3 c =
+    let s = c .before .before .before .before in
+    c .new3 .ensures ∙ as-A (s .args .e) (s .args .role .0) _ (omega arith) (c .before .side-of2 .ensures)
+
+pub layout-in-spec : {M : Type 1} → statement M
+layout-in-spec =
+    tie.close
+    (tie.spec
+    side-of-requires
+    new-requires
+    returns
+    new-requires-2
+    returns-2
+    side-of-requires-2
+    new-requires-3
+    returns-3)

@@ -1,0 +1,29 @@
+-- The layout was given or refused; either way the place's answer follows from it. Assumes nothing.
+use borrow.Author.Needs.{needs}
+use mathlib.Core.Path.{_∙_}
+use Rattle.kinds.proofs.Answers.{known-sane, known-placed, place-refused}
+use Rattle.kinds.proofs.place.Statement.{statement}
+use Rattle.kinds.proofs.place.Tie as tie
+
+layout-of-requires : tie.Need-layout-of-requires
+layout-of-requires c κs = search needs
+
+enum-known-f : tie.Need-enum-known-f
+enum-known-f c = search needs
+
+place-in-requires : tie.Need-place-in-requires
+place-in-requires c κs = known-sane _ _ _ (c .before .before .before .layout-of .ensures) _ (c .before .f .given .1)
+
+enum-known-x : tie.Need-enum-known-x
+enum-known-x c = search needs
+
+returns : tie.Need-returns
+returns c = c .place-in .ensures ∙ known-placed _ _ _ (c .before .before .before .before .layout-of .ensures) _ (c .before .before .f .given .1) _ _
+
+returns-2 : tie.Need-returns-2
+returns-2 c = place-refused _ _ _ (c .before .before .before .layout-of .ensures) _ (c .before .x .given .1) _ _
+
+pub place-spec : {M : Type 1} → statement M
+place-spec =
+    tie.close
+    (tie.spec layout-of-requires enum-known-f place-in-requires enum-known-x returns returns-2)

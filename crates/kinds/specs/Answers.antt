@@ -1,0 +1,58 @@
+-- What the calls of this crate answer. Order: place 1, 2, 6, and the reverse question alike. Assumes nothing.
+use Prim.Native.Nat.{ℕ}
+use mathlib.Core.Bool.{_||_}
+use Rattle.laws.specs.Choice.{if_then_else_, _≤?_}
+use Rattle.kinds.specs.Kinds.{lanes, entryOf, kindOf, roleOf}
+use Rattle.kinds.specs.Places.{placeOf}
+use Rattle.kinds.specs.Rule.{layoutOf, elementsOf, majors, minors, turn, placeIn, holderIn}
+use Rattle.kinds.specs.Refusals.{Answer, given, refusal, refused, noKind, noRole, noElement, noEntry}
+use Rattle.kinds.specs.declared.Layout.{Layout}
+use Rattle.kinds.specs.declared.Known.{Known}
+use Rattle.kinds.specs.declared.Known.the-variants.{As, Refused as Known·Refused}
+use Rattle.kinds.specs.declared.Placed.{Placed}
+use Rattle.kinds.specs.declared.Placed.the-variants.{At, Refused as Placed·Refused}
+use Rattle.kinds.specs.declared.Held.{Held}
+use Rattle.kinds.specs.declared.Held.the-variants.{By, Refused as Held·Refused}
+
+-- what each case of an answer means: a layout; row and column; lane and element
+abbrev pub toldLayout : Known → Answer Layout
+toldLayout (As f) = given f
+toldLayout (Known·Refused x) = refused x
+
+abbrev pub toldPlace : Placed → Answer (ℕ × ℕ)
+toldPlace (At row column) = given (row .0, column .0)
+toldPlace (Placed·Refused x) = refused x
+
+abbrev pub toldHolder : Held → Answer (ℕ × ℕ)
+toldHolder (By lane i) = given (lane .0, i .0)
+toldHolder (Held·Refused x) = refused x
+
+-- the layout of a kind and a role
+unfoldable pub layoutAnswer : (kind role : ℕ) → Answer Layout
+layoutAnswer k r =
+    if noKind k then refusal 1 0
+    else if noRole r then refusal 2 0
+    else given (layoutOf (entryOf k) (roleOf r))
+
+-- the place of an element: row and column
+unfoldable pub placeAnswer : (kind role lane i : ℕ) → Answer (ℕ × ℕ)
+placeAnswer k r lane i =
+    if noKind k then refusal 1 0
+    else if noRole r then refusal 2 0
+    else if noElement (entryOf k) (roleOf r) lane i then refusal 6 0
+    else given (placeOf (kindOf k) (roleOf r) lane i)
+
+-- the reverse question, whose place it is: lane and element
+unfoldable pub findAnswer : (kind role row column : ℕ) → Answer (ℕ × ℕ)
+findAnswer k r row column =
+    if noKind k then refusal 1 0
+    else if noRole r then refusal 2 0
+    else if noEntry (entryOf k) (roleOf r) row column then refusal 6 0
+    else given (holderIn (layoutOf (entryOf k) (roleOf r)) (turn (layoutOf (entryOf k) (roleOf r) .turned) (row, column)))
+
+-- the same two in a layout; the reverse question by its major and minor number
+unfoldable pub placeBy : Layout → (lane i : ℕ) → Answer (ℕ × ℕ)
+placeBy f lane i = if lanes ≤? lane || elementsOf f ≤? i then refusal 6 0 else given (placeIn f lane i)
+
+unfoldable pub findBy : Layout → ℕ × ℕ → Answer (ℕ × ℕ)
+findBy f x = if majors f ≤? x .0 || minors f ≤? x .1 then refusal 6 0 else given (holderIn f x)

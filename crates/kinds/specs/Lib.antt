@@ -1,0 +1,5 @@
+pub mod Kinds
+pub mod Places
+pub mod Rule
+pub mod Refusals
+pub mod Answers

@@ -1,0 +1,57 @@
+-- Document 01, 'Where an element sits': g is lane divided by 4, t is lane mod 4, i the element number from 0. Each clause is
+-- (row, column). Assumes nothing.
+use Prim.Native.Nat.{ℕ, _+_, _*_, _/_, _%_}
+use mathlib.Core.Bool.{_&&_, _||_}
+use Rattle.laws.specs.Choice.{if_then_else_, _<?_, _≤?_, _=?_}
+use Rattle.kinds.specs.Kinds.{KnownKind, kind1, kind2, kind3, kind4, kind5, kind6, kind7, kind8, kind9, kind10, KnownRole, roleA, roleB, roleC}
+
+-- A (row; column)
+abbrev pub placeA : KnownKind → (g t i : ℕ) → ℕ × ℕ
+placeA kind1 g t i = (g, 32 * t + i)
+placeA kind2 g t i = (if i <? 4 then g else g + 8, 4 * t + i % 4)
+placeA kind3 g t i = (if i <? 4 || 8 ≤? i && i <? 12 then g else g + 8, 4 * t + i % 4 + (if 8 ≤? i then 16 else 0))
+placeA kind4 g t i = (if i <? 8 then g else g + 8, 8 * t + i % 8)
+placeA kind5 g t i = (if i <? 8 || 16 ≤? i && i <? 24 then g else g + 8, 8 * t + i % 8 + (if 16 ≤? i then 32 else 0))
+placeA kind6 g t i = (if i <? 2 then g else g + 8, 2 * t + i % 2)
+placeA kind7 g t i = (if i <? 2 then g else g + 8, 2 * t + i % 2)
+placeA kind8 g t i = (if i % 2 =? 0 then g else g + 8, if i <? 2 then t else t + 4)
+placeA kind9 g t i = (if i % 2 =? 0 then g else g + 8, if i <? 2 then t else t + 4)
+placeA kind10 g t i = (g, t)
+
+-- B (column is always g; row)
+abbrev pub rowB : KnownKind → (t i : ℕ) → ℕ
+rowB kind1 t i = 32 * t + i
+rowB kind2 t i = 4 * t + i
+rowB kind3 t i = 4 * t + i % 4 + (if 4 ≤? i then 16 else 0)
+rowB kind4 t i = 8 * t + i
+rowB kind5 t i = 8 * t + i % 8 + (if 8 ≤? i then 32 else 0)
+rowB kind6 t i = 2 * t + i
+rowB kind7 t i = 2 * t + i
+rowB kind8 t i = t + 4 * i
+rowB kind9 t i = t + 4 * i
+rowB kind10 t i = t
+
+-- C/D: kinds 1 and 10, and all others
+abbrev pub narrowC : (g t i : ℕ) → ℕ × ℕ
+narrowC g t i = (g, 2 * t + i)
+
+abbrev pub wideC : (g t i : ℕ) → ℕ × ℕ
+wideC g t i = (if i <? 2 then g else g + 8, 2 * t + i % 2)
+
+abbrev pub placeC : KnownKind → (g t i : ℕ) → ℕ × ℕ
+placeC kind1 = narrowC
+placeC kind2 = wideC
+placeC kind3 = wideC
+placeC kind4 = wideC
+placeC kind5 = wideC
+placeC kind6 = wideC
+placeC kind7 = wideC
+placeC kind8 = wideC
+placeC kind9 = wideC
+placeC kind10 = narrowC
+
+-- the place of element i of a lane
+unfoldable pub placeOf : KnownKind → KnownRole → (lane i : ℕ) → ℕ × ℕ
+placeOf κ roleA lane i = placeA κ (lane / 4) (lane % 4) i
+placeOf κ roleB lane i = (rowB κ (lane % 4) i, lane / 4)
+placeOf κ roleC lane i = placeC κ (lane / 4) (lane % 4) i

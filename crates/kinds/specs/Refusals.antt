@@ -1,0 +1,55 @@
+-- Document 01, 'Refusal numbers'. Assumes nothing.
+use Prim.Native.Nat.{ℕ}
+use mathlib.Core.Bool.{Bool, not, _&&_, _||_}
+use Rattle.laws.specs.Choice.{_≤?_}
+use Rattle.kinds.specs.Kinds.{kinds, lanes, KnownRole, rows, columns, elements}
+use Rattle.kinds.specs.declared.Entry.{Entry}
+use Rattle.kinds.specs.declared.Refusal.{Refusal}
+use Rattle.kinds.specs.declared.Refusal.the-variants.{UnknownKind, UnknownRole, NotArithmetic, BadSelectors, WrongLength, Outside, TooWide, BadScale, RunFull, BadRun}
+
+-- What a call answers, in this paper's numbers: what it gives, or a refusal, which is its number and detail.
+pub data Answer (X : Type 0) : Type 0 where
+  given : X → Answer X
+  refusal : (number detail : ℕ) → Answer X
+
+abbrev pub numberOf : Refusal → ℕ
+numberOf UnknownKind = 1
+numberOf UnknownRole = 2
+numberOf NotArithmetic = 3
+numberOf BadSelectors = 4
+numberOf (WrongLength buffer) = 5
+numberOf Outside = 6
+numberOf (TooWide index) = 7
+numberOf (BadScale selector) = 8
+numberOf RunFull = 9
+numberOf BadRun = 10
+
+abbrev pub detailOf : Refusal → ℕ
+detailOf UnknownKind = 0
+detailOf UnknownRole = 0
+detailOf NotArithmetic = 0
+detailOf BadSelectors = 0
+detailOf (WrongLength buffer) = buffer
+detailOf Outside = 0
+detailOf (TooWide index) = index
+detailOf (BadScale selector) = selector
+detailOf RunFull = 0
+detailOf BadRun = 0
+
+abbrev pub refused : {X : Type 0} → Refusal → Answer X
+refused f = refusal (numberOf f) (detailOf f)
+
+-- 1: kind not 1 to 10
+abbrev pub noKind : ℕ → Bool
+noKind k = not (1 ≤? k && k ≤? kinds)
+
+-- 2: role not 0 to 2
+abbrev pub noRole : ℕ → Bool
+noRole r = not (r ≤? 2)
+
+-- 6: lane over 31, element past the last; row or column past the last
+abbrev pub noElement : Entry → KnownRole → (lane i : ℕ) → Bool
+noElement e ρ lane i = lanes ≤? lane || elements e ρ ≤? i
+
+abbrev pub noEntry : Entry → KnownRole → (row column : ℕ) → Bool
+noEntry e ρ row column = rows e ρ ≤? row || columns e ρ ≤? column

@@ -1,0 +1,75 @@
+-- One rule for every kind and role, over p, the elements that stand side by side, and h, the halves of eight rows: lane and element
+-- are digits, and so are the major and the minor number. For A, C and D the row is the major number and the column the minor one; for B
+-- the other way round. proofs/Whole.antt ties it to document 01's rules. Assumes nothing.
+use Prim.Native.Nat.{ℕ, _+_, _*_, _/_, _%_, _<_, _≤_}
+use mathlib.Core.Path.{_≡_}
+use mathlib.Core.Bool.{Bool, true, false}
+use Rattle.laws.specs.Choice.{if_then_else_, _<?_}
+use Rattle.kinds.specs.Kinds.{KnownRole, roleA, roleB, roleC, wordBits, bits, words}
+use Rattle.kinds.specs.declared.Entry.{Entry}
+use Rattle.kinds.specs.declared.Layout.{Layout}
+
+-- lane and element to the major and the minor number
+unfoldable pub major : (p h lane i : ℕ) → ℕ
+major p h lane i = i / p % h * 8 + lane / 4
+
+unfoldable pub minor : (p h lane i : ℕ) → ℕ
+minor p h lane i = (i / p / h * 4 + lane % 4) * p + i % p
+
+-- the major number x and the minor number y to lane and element
+unfoldable pub laneOf : (p x y : ℕ) → ℕ
+laneOf p x y = x % 8 * 4 + y / p % 4
+
+unfoldable pub elementOf : (p h x y : ℕ) → ℕ
+elementOf p h x y = (y / p / 4 * h + x / 8) * p + y % p
+
+-- A and B elements stand side by side as many as a word holds, or one where an element takes two words.
+abbrev pub sideOf : ℕ → ℕ
+sideOf b = if b <? wordBits then wordBits / b else 1
+
+abbrev pub spread : (bits words side majors minors : ℕ) → Bool → Layout
+spread b w p x y t = record { bits = b; words = w; side = p; halves = x / 8; spans = y / 4 / p; turned = t }
+
+-- A is m by k, B is k by n, C is m by n, with C's elements in pairs; in B the major number is the column.
+abbrev pub layoutOf : Entry → KnownRole → Layout
+layoutOf e roleA = spread (bits e roleA) (words e roleA) (sideOf (e .3)) (e .0) (e .2) false
+layoutOf e roleB = spread (bits e roleB) (words e roleB) (sideOf (e .3)) (e .1) (e .2) true
+layoutOf e roleC = spread (bits e roleC) (words e roleC) 2 (e .0) (e .1) false
+
+-- a lane's elements; the major and the minor numbers there are
+abbrev pub elementsOf : Layout → ℕ
+elementsOf f = f .spans * f .halves * f .side
+
+abbrev pub majors : Layout → ℕ
+majors f = f .halves * 8
+
+abbrev pub minors : Layout → ℕ
+minors f = f .spans * 4 * f .side
+
+-- row and column from major and minor, and back
+abbrev pub turn : Bool → ℕ × ℕ → ℕ × ℕ
+turn false x = x
+turn true x = (x .1, x .0)
+
+abbrev pub placeIn : Layout → (lane i : ℕ) → ℕ × ℕ
+placeIn f lane i = turn (f .turned) (major (f .side) (f .halves) lane i, minor (f .side) (f .halves) lane i)
+
+abbrev pub holderIn : Layout → ℕ × ℕ → ℕ × ℕ
+holderIn f x = (laneOf (f .side) (x .0) (x .1), elementOf (f .side) (f .halves) (x .0) (x .1))
+
+-- what every layout of the table has
+pub record Sane (f : Layout) : Type 0 where
+  pub bits-pos : 0 < f .bits
+  pub bits-le : f .bits ≤ 64
+  pub words-pos : 0 < f .words
+  pub words-le : f .words ≤ 8
+  pub side-pos : 0 < f .side
+  pub side-le : f .side ≤ 32
+  pub halves-pos : 0 < f .halves
+  pub halves-le : f .halves ≤ 2
+  pub spans-pos : 0 < f .spans
+  pub spans-le : f .spans ≤ 2
+  pub groups-le : f .spans * f .halves ≤ 4
+  pub elements-le : elementsOf f ≤ 64
+  pub minors-le : minors f ≤ 128
+  pub full : f .bits * elementsOf f ≡ wordBits * f .words

@@ -1,0 +1,264 @@
+// The kinds of document 01: their table, the place of an element, and the reverse question.
+ghost use mathlib.Core.Path.{_≡_};
+ghost use Prim.Native.Nat.{_*_, _<_, _≤_};
+ghost use Rattle.kinds.specs.Kinds.{kinds, entryOf, roleOf, lanes};
+ghost use Rattle.kinds.specs.Rule.{spread, sideOf, layoutOf, elementsOf, majors, minors, Sane, major, minor, laneOf, elementOf};
+ghost use Rattle.kinds.specs.Answers.{toldLayout, toldPlace, toldHolder, layoutAnswer, placeAnswer, placeBy, findAnswer, findBy};
+
+// Every number that could be taken for another has its own type. Any u32 may stand in it: what is out of range is refused.
+pub struct Kind(pub u32);
+
+pub struct Role(pub u32);
+
+pub struct Lane(pub u32);
+
+pub struct Element(pub u32);
+
+pub struct Row(pub u32);
+
+pub struct Column(pub u32);
+
+impl Kind {
+    // The kinds are 1 to COUNT.
+    pub const COUNT: u32 = 10;
+}
+
+impl Role {
+    pub const A: u32 = 0;
+
+    pub const B: u32 = 1;
+
+    // C or D.
+    pub const C: u32 = 2;
+}
+
+impl Lane {
+    // Lanes of a warp.
+    pub const COUNT: u32 = 32;
+
+    // Lanes of a quad.
+    pub const QUAD: u32 = 4;
+}
+
+// The refusals of the whole bench, in the order of their numbers, with the detail where one has it.
+pub enum Refusal {
+    UnknownKind,
+    UnknownRole,
+    NotArithmetic,
+    BadSelectors,
+    WrongLength(u32),
+    Outside,
+    TooWide(usize),
+    BadScale(u32),
+    RunFull,
+    BadRun,
+}
+
+pub enum Placed {
+    At(Row, Column),
+    Refused(Refusal),
+}
+
+pub enum Held {
+    By(Lane, Element),
+    Refused(Refusal),
+}
+
+// A line of the kinds table: m, n, k; bits of an A or B element, of a C or D element; words per lane of A, of B, of C or D.
+pub struct Entry(
+    pub u32,
+    pub u32,
+    pub u32,
+    pub u32,
+    pub u32,
+    pub u32,
+    pub u32,
+    pub u32,
+);
+
+const KINDS: [Entry; 10] = [
+    Entry(8, 8, 128, 1, 32, 1, 1, 2),
+    Entry(16, 8, 16, 8, 32, 2, 1, 4),
+    Entry(16, 8, 32, 8, 32, 4, 2, 4),
+    Entry(16, 8, 32, 4, 32, 2, 1, 4),
+    Entry(16, 8, 64, 4, 32, 4, 2, 4),
+    Entry(16, 8, 8, 16, 32, 2, 1, 4),
+    Entry(16, 8, 8, 16, 16, 2, 1, 2),
+    Entry(16, 8, 8, 32, 32, 4, 2, 4),
+    Entry(16, 8, 8, 64, 64, 8, 4, 8),
+    Entry(8, 8, 4, 64, 64, 2, 2, 4),
+];
+
+impl Entry {
+    // The line of a kind.
+    fn of(kind: Kind) -> Entry
+        requires { ⌜ (1 ≤ kind .0) × (kind .0 ≤ kinds) ⌝ }
+        ensures { λ r. ⌜ r ≡ entryOf (kind .0) ⌝ }
+    {
+        let k = (kind.0 - 1) as usize;
+        KINDS[k]
+    }
+}
+
+// How one kind and role lies in a warp: bits of an element and words of a lane; elements side by side, halves of eight rows, spans of
+// four times side columns; turned where the major number is the column, as in B.
+pub struct Layout {
+    pub bits: u32,
+    pub words: u32,
+    pub side: u32,
+    pub halves: u32,
+    pub spans: u32,
+    pub turned: bool,
+}
+
+pub enum Known {
+    As(Layout),
+    Refused(Refusal),
+}
+
+impl Layout {
+    // The layout whose matrix has so many major and minor numbers.
+    fn new(bits: u32, words: u32, side: u32, majors: u32, minors: u32, turned: bool) -> Layout
+        requires { ⌜ 0 < side ⌝ }
+        ensures { λ r. ⌜ r ≡ spread bits words side majors minors turned ⌝ }
+    {
+        Layout {
+            bits,
+            words,
+            side,
+            halves: majors / 8,
+            spans: minors / 4 / side,
+            turned,
+        }
+    }
+}
+
+// The elements that stand side by side in A and B: as many as a word holds, or one where an element takes two words.
+fn side_of(bits: u32) -> u32
+    requires { ⌜ 0 < bits ⌝ }
+    ensures { λ r. ⌜ r ≡ sideOf bits ⌝ }
+{
+    if bits < 32 { 32 / bits } else { 1 }
+}
+
+fn layout_in(e: Entry, role: Role) -> Layout
+    requires { ⌜ (0 < e .3) × (0 < sideOf (e .3)) × (role .0 ≤ 2) ⌝ }
+    ensures { λ r. ⌜ r ≡ layoutOf e (roleOf (role .0)) ⌝ }
+{
+    let r = role.0;
+    if r == Role::B {
+        return Layout::new(e.3, e.6, side_of(e.3), e.1, e.2, true);
+    }
+    if r == Role::C {
+        return Layout::new(e.4, e.7, 2, e.0, e.1, false);
+    }
+    Layout::new(e.3, e.5, side_of(e.3), e.0, e.2, false)
+}
+
+// The layout of a kind and a role, or refusal 1 or 2.
+pub fn layout_of(kind: Kind, role: Role) -> Known
+    ensures { λ r. ⌜ toldLayout r ≡ layoutAnswer (kind .0) (role .0) ⌝ }
+{
+    let k = kind.0;
+    let r = role.0;
+    if k < 1 {
+        return Known::Refused(Refusal::UnknownKind);
+    }
+    if Kind::COUNT < k {
+        return Known::Refused(Refusal::UnknownKind);
+    }
+    if Role::C < r {
+        return Known::Refused(Refusal::UnknownRole);
+    }
+    let e = Entry::of(kind);
+    Known::As(layout_in(e, role))
+}
+
+// The major and the minor number of an element.
+fn across(f: Layout, lane: u32, i: u32) -> u32
+    requires { ⌜ Sane f × (lane < lanes) ⌝ }
+    ensures { λ r. ⌜ r ≡ major (f .side) (f .halves) lane i ⌝ }
+{
+    i / f.side % f.halves * 8 + lane / Lane::QUAD
+}
+
+fn along(f: Layout, lane: u32, i: u32) -> u32
+    requires { ⌜ Sane f × (i < elementsOf f) ⌝ }
+    ensures { λ r. ⌜ r ≡ minor (f .side) (f .halves) lane i ⌝ }
+{
+    (i / f.side / f.halves * Lane::QUAD + lane % Lane::QUAD) * f.side + i % f.side
+}
+
+fn place_in(f: Layout, lane: Lane, element: Element) -> Placed
+    requires { ⌜ Sane f ⌝ }
+    ensures { λ r. ⌜ toldPlace r ≡ placeBy f (lane .0) (element .0) ⌝ }
+{
+    let l = lane.0;
+    let i = element.0;
+    if Lane::COUNT <= l {
+        return Placed::Refused(Refusal::Outside);
+    }
+    if f.spans * f.halves * f.side <= i {
+        return Placed::Refused(Refusal::Outside);
+    }
+    let x = across(f, l, i);
+    let y = along(f, l, i);
+    if f.turned {
+        return Placed::At(Row(y), Column(x));
+    }
+    Placed::At(Row(x), Column(y))
+}
+
+// The place of an element: its row and column.
+pub fn place(kind: Kind, role: Role, lane: Lane, element: Element) -> Placed
+    ensures { λ r. ⌜ toldPlace r ≡ placeAnswer (kind .0) (role .0) (lane .0) (element .0) ⌝ }
+{
+    match layout_of(kind, role) {
+        Known::As(f) => place_in(f, lane, element),
+        Known::Refused(x) => Placed::Refused(x),
+    }
+}
+
+// The lane and the element of a major number x and a minor number y.
+fn lane_at(f: Layout, x: u32, y: u32) -> u32
+    requires { ⌜ 0 < f .side ⌝ }
+    ensures { λ r. ⌜ r ≡ laneOf (f .side) x y ⌝ }
+{
+    x % 8 * Lane::QUAD + y / f.side % Lane::QUAD
+}
+
+fn element_at(f: Layout, x: u32, y: u32) -> u32
+    requires { ⌜ Sane f × (x < majors f) × (y < minors f) ⌝ }
+    ensures { λ r. ⌜ r ≡ elementOf (f .side) (f .halves) x y ⌝ }
+{
+    (y / f.side / Lane::QUAD * f.halves + x / 8) * f.side + y % f.side
+}
+
+fn find_in(f: Layout, x: u32, y: u32) -> Held
+    requires { ⌜ Sane f ⌝ }
+    ensures { λ r. ⌜ toldHolder r ≡ findBy f (x, y) ⌝ }
+{
+    if f.halves * 8 <= x {
+        return Held::Refused(Refusal::Outside);
+    }
+    if f.spans * 4 * f.side <= y {
+        return Held::Refused(Refusal::Outside);
+    }
+    Held::By(Lane(lane_at(f, x, y)), Element(element_at(f, x, y)))
+}
+
+// The reverse question: the lane and the element whose place is at a row and a column.
+pub fn find(kind: Kind, role: Role, row: Row, column: Column) -> Held
+    ensures { λ r. ⌜ toldHolder r ≡ findAnswer (kind .0) (role .0) (row .0) (column .0) ⌝ }
+{
+    match layout_of(kind, role) {
+        Known::As(f) => {
+            if f.turned {
+                find_in(f, column.0, row.0)
+            } else {
+                find_in(f, row.0, column.0)
+            }
+        }
+        Known::Refused(x) => Held::Refused(x),
+    }
+}
