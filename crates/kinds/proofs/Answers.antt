@@ -9,8 +9,8 @@ use Rattle.laws.specs.Choice.{if_then_else_, _≤?_}
 use Rattle.laws.proofs.Choice.{or-false, or-comm}
 use Rattle.kinds.specs.Kinds.{lanes, entryOf, kindOf, roleOf, rows, columns, elements}
 use Rattle.kinds.specs.Places.{placeOf}
-use Rattle.kinds.specs.Rule.{elementsOf, majors, minors, turn, placeIn, holderIn, Sane, major, minor, laneOf, elementOf}
-use Rattle.kinds.specs.Refusals.{Answer, given, refusal, refused, numberOf, detailOf, noElement, noEntry}
+use Rattle.kinds.specs.Rule.{elementsOf, majors, minors, turn, placeIn, holderIn, holderOf, Sane, major, minor, laneOf, elementOf}
+use Rattle.kinds.specs.Refusals.{Answer, given, refusal, refused, judged, numberOf, detailOf, noElement, noEntry}
 use Rattle.kinds.specs.Answers.{toldLayout, layoutAnswer, placeAnswer, findAnswer, placeBy, findBy}
 use Rattle.kinds.specs.declared.Layout.{Layout}
 use Rattle.kinds.specs.declared.Refusal.{Refusal}
@@ -19,7 +19,7 @@ use Rattle.kinds.specs.declared.Known.the-variants.{As, Refused as Known
 use Rattle.kinds.proofs.Digits.{lane-back, element-back, major-back, minor-back, major-lt, minor-lt, lane-lt, element-lt}
 use Rattle.kinds.proofs.Table.{Legal, layoutAt, elements-are, majors-are, minors-are, sane}
 use Rattle.kinds.proofs.Whole.{whole-at}
-use Rattle.kinds.proofs.Judged.{passed, judged, judged-is, judged-given, judged-refused}
+use Rattle.kinds.proofs.Judged.{passed, judged-is, judged-given, judged-refused}
 
 -- the layout that was given is the table's, of a legal kind and role
 pub layout-given : (k r : ℕ) (f : Layout) → layoutAnswer k r ≡ given f → Legal k r × (f ≡ layoutAt k r)
@@ -39,7 +39,7 @@ place-legal k r l i z e = judged-given k r (if noElement (entryOf k) (roleOf r) 
 pub find-legal : (k r x y : ℕ) (z : ℕ × ℕ) → findAnswer k r x y ≡ given z → Legal k r
 unfolding findAnswer
 find-legal k r x y z e =
-    judged-given k r (if noEntry (entryOf k) (roleOf r) x y then refusal 6 0 else given (holderIn (layoutAt k r) (turn (layoutAt k r .turned) (x, y)))) z e .0
+    judged-given k r (if noEntry (entryOf k) (roleOf r) x y then refusal 6 0 else given (holderOf (layoutAt k r) (x, y))) z e .0
 
 -- two choices by one test that give alike where it lets pass
 alike : (t : Bool) (x y : ℕ × ℕ) → (t ≡ false → x ≡ y) → (if t then refusal 6 0 else given x) ≡ (if t then refusal 6 0 else given y)
@@ -82,8 +82,8 @@ module _ (k r : ℕ) (ok : Legal k r) where
   pub find-is : (x y : ℕ) → findBy f (turn (f .turned) (x, y)) ≡ findAnswer k r x y
   unfolding findBy findAnswer
   find-is x y =
-      ap (λ (t : Bool). if t then refusal 6 0 else given (holderIn f (turn (f .turned) (x, y)))) (outside x y)
-      ∙ sym (judged-is k r (if noEntry (entryOf k) (roleOf r) x y then refusal 6 0 else given (holderIn f (turn (f .turned) (x, y)))) ok)
+      ap (λ (t : Bool). if t then refusal 6 0 else given (holderOf f (x, y))) (outside x y)
+      ∙ sym (judged-is k r (if noEntry (entryOf k) (roleOf r) x y then refusal 6 0 else given (holderOf f (x, y))) ok)
 
 -- from the layout that a call was handed to the call's own answer
 module _ (k r : ℕ) (a : Known) (told : toldLayout a ≡ layoutAnswer k r) where
@@ -114,7 +114,7 @@ module _ (k r : ℕ) (a : Known) (told : toldLayout a ≡ layoutAnswer k r) wher
 
     pub find-refused : (row column : ℕ) → refused x ≡ findAnswer k r row column
     unfolding findAnswer
-    find-refused row column = handed-on (if noEntry (entryOf k) (roleOf r) row column then refusal 6 0 else given (holderIn (layoutAt k r) (turn (layoutAt k r .turned) (row, column))))
+    find-refused row column = handed-on (if noEntry (entryOf k) (roleOf r) row column then refusal 6 0 else given (holderOf (layoutAt k r) (row, column)))
 
 -- what was worked out inside is the answer
 pub placed : (f : Layout) (l i x y : ℕ) (t : Bool) → l < lanes → i < elementsOf f → x ≡ major (f .side) (f .halves) l i → y ≡ minor (f .side) (f .halves) l i → f .turned ≡ t

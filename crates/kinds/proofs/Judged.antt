@@ -8,7 +8,7 @@ use borrow.Author.Tests.{leb-true, le-leb, not-false}
 use Rattle.laws.specs.Choice.{if_then_else_, _≤?_}
 use Rattle.laws.proofs.Choice.{and-true}
 use Rattle.kinds.specs.Kinds.{kinds}
-use Rattle.kinds.specs.Refusals.{Answer, given, refusal, noKind, noRole}
+use Rattle.kinds.specs.Refusals.{Answer, given, refusal, judged, noKind, noRole}
 use Rattle.kinds.proofs.Table.{Legal}
 
 module _ {X : Type 0} where
@@ -32,9 +32,6 @@ legal k r a b =
     record { low = leb-true 1 k (c .0); high = leb-true k kinds (c .1); role = leb-true r 2 (not-false (r ≤? 2) b) }
 
 -- the links that every call of a kind and a role begins with
-abbrev pub judged : {X : Type 0} → ℕ → ℕ → Answer X → Answer X
-judged k r rest = if noKind k then refusal 1 0 else if noRole r then refusal 2 0 else rest
-
 pub judged-is : {X : Type 0} (k r : ℕ) (rest : Answer X) → Legal k r → judged k r rest ≡ rest
 judged-is k r rest ok = simp (kind-legal k r ok, role-legal k r ok)
 

@@ -4,8 +4,8 @@ use mathlib.Core.Bool.{_||_}
 use Rattle.laws.specs.Choice.{if_then_else_, _≤?_}
 use Rattle.kinds.specs.Kinds.{lanes, entryOf, kindOf, roleOf}
 use Rattle.kinds.specs.Places.{placeOf}
-use Rattle.kinds.specs.Rule.{layoutOf, elementsOf, majors, minors, turn, placeIn, holderIn}
-use Rattle.kinds.specs.Refusals.{Answer, given, refusal, refused, noKind, noRole, noElement, noEntry}
+use Rattle.kinds.specs.Rule.{layoutOf, elementsOf, majors, minors, placeIn, holderIn, holderOf}
+use Rattle.kinds.specs.Refusals.{Answer, given, refusal, refused, judged, noElement, noEntry}
 use Rattle.kinds.specs.declared.Layout.{Layout}
 use Rattle.kinds.specs.declared.Known.{Known}
 use Rattle.kinds.specs.declared.Known.the-variants.{As, Refused as Known·Refused}
@@ -29,26 +29,21 @@ toldHolder (Held·Refused x) = refused x
 
 -- the layout of a kind and a role
 unfoldable pub layoutAnswer : (kind role : ℕ) → Answer Layout
-layoutAnswer k r =
-    if noKind k then refusal 1 0
-    else if noRole r then refusal 2 0
-    else given (layoutOf (entryOf k) (roleOf r))
+layoutAnswer k r = judged k r (given (layoutOf (entryOf k) (roleOf r)))
 
 -- the place of an element: row and column
 unfoldable pub placeAnswer : (kind role lane i : ℕ) → Answer (ℕ × ℕ)
 placeAnswer k r lane i =
-    if noKind k then refusal 1 0
-    else if noRole r then refusal 2 0
-    else if noElement (entryOf k) (roleOf r) lane i then refusal 6 0
-    else given (placeOf (kindOf k) (roleOf r) lane i)
+    judged k r
+    (if noElement (entryOf k) (roleOf r) lane i then refusal 6 0
+    else given (placeOf (kindOf k) (roleOf r) lane i))
 
 -- the reverse question, whose place it is: lane and element
 unfoldable pub findAnswer : (kind role row column : ℕ) → Answer (ℕ × ℕ)
 findAnswer k r row column =
-    if noKind k then refusal 1 0
-    else if noRole r then refusal 2 0
-    else if noEntry (entryOf k) (roleOf r) row column then refusal 6 0
-    else given (holderIn (layoutOf (entryOf k) (roleOf r)) (turn (layoutOf (entryOf k) (roleOf r) .turned) (row, column)))
+    judged k r
+    (if noEntry (entryOf k) (roleOf r) row column then refusal 6 0
+    else given (holderOf (layoutOf (entryOf k) (roleOf r)) (row, column)))
 
 -- the same two in a layout; the reverse question by its major and minor number
 unfoldable pub placeBy : Layout → (lane i : ℕ) → Answer (ℕ × ℕ)

@@ -1,7 +1,7 @@
 -- Document 01, 'Refusal numbers'. Assumes nothing.
 use Prim.Native.Nat.{ℕ}
 use mathlib.Core.Bool.{Bool, not, _&&_, _||_}
-use Rattle.laws.specs.Choice.{_≤?_}
+use Rattle.laws.specs.Choice.{if_then_else_, _≤?_}
 use Rattle.kinds.specs.Kinds.{kinds, lanes, KnownRole, rows, columns, elements}
 use Rattle.kinds.specs.declared.Entry.{Entry}
 use Rattle.kinds.specs.declared.Refusal.{Refusal}
@@ -53,3 +53,10 @@ noElement e ρ lane i = lanes ≤? lane || elements e ρ ≤? i
 
 abbrev pub noEntry : Entry → KnownRole → (row column : ℕ) → Bool
 noEntry e ρ row column = rows e ρ ≤? row || columns e ρ ≤? column
+
+-- Where several apply, the first in order is given: 1 and 2 come before the rest in every call that names a kind and a role.
+abbrev pub judged : {X : Type 0} → (kind role : ℕ) → Answer X → Answer X
+judged k r rest =
+    if noKind k then refusal 1 0
+    else if noRole r then refusal 2 0
+    else rest

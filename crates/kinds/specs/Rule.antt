@@ -57,6 +57,9 @@ placeIn f lane i = turn (f .turned) (major (f .side) (f .halves) lane i, minor (
 abbrev pub holderIn : Layout → ℕ × ℕ → ℕ × ℕ
 holderIn f x = (laneOf (f .side) (x .0) (x .1), elementOf (f .side) (f .halves) (x .0) (x .1))
 
+abbrev pub holderOf : Layout → ℕ × ℕ → ℕ × ℕ
+holderOf f x = holderIn f (turn (f .turned) x)
+
 -- what every layout of the table has
 pub record Sane (f : Layout) : Type 0 where
   pub bits-pos : 0 < f .bits
