@@ -7,10 +7,12 @@ use lib.ListN.{getD}
 use Rattle.kinds.specs.Kinds.{kinds, lanes, kindOf, entryOf, roleOf, elements}
 use Rattle.kinds.specs.Places.{placeOf}
 use Rattle.kinds.specs.Rule.{layoutOf, placeIn, turn}
-use Rattle.kinds.specs.Refusals.{Answer, given, refusal, refused, numberOf, detailOf}
+use Rattle.kinds.specs.Refusals.{Answer, given, refusal, refused, told, numberOf, detailOf}
 use Rattle.kinds.specs.Answers.{placeAnswer, findAnswer, placeBy, findBy, toldPlace, toldHolder}
 use Rattle.kinds.specs.declared.Refusal.{Refusal}
 use Rattle.kinds.specs.declared.Refusal.the-variants.{UnknownKind, UnknownRole, NotArithmetic, BadSelectors, WrongLength, Outside, TooWide, BadScale, RunFull, BadRun}
+use Rattle.kinds.specs.declared.Verdict.{Verdict}
+use Rattle.kinds.specs.declared.Verdict.the-variants.{Accepted, Refused}
 use Rattle.kinds.specs.declared.Placed.{Placed}
 use Rattle.kinds.specs.declared.Placed.the-variants.{At, Refused as Placed·Refused}
 use Rattle.kinds.specs.declared.Held.{Held}
@@ -69,6 +71,15 @@ heldOf : Answer (ℕ × ℕ) → Held
 heldOf (given x) = By (record { 0 = x .0 }) (record { 0 = x .1 })
 heldOf (refusal n d) = Held·Refused (refusalOf n d)
 
+verdictOf : Answer (Unit {0}) → Verdict
+verdictOf (given x) = Accepted
+verdictOf (refusal n d) = Refused (refusalOf n d)
+
+verdict-back : (a : Verdict) → verdictOf (told a) ≡ a
+unfolding verdictOf
+verdict-back Accepted = refl
+verdict-back (Refused f) = ap Refused (refusal-back f)
+
 placed-back : (a : Placed) → placedOf (toldPlace a) ≡ a
 unfolding placedOf
 placed-back (At x y) = refl
@@ -84,3 +95,7 @@ one-place a b k r l i = one-answer toldPlace placedOf placed-back a b (placeAnsw
 
 pub one-holder : (a b : Held) (k r x y : ℕ) → toldHolder a ≡ findAnswer k r x y → toldHolder b ≡ findAnswer k r x y → a ≡ b
 one-holder a b k r x y = one-answer toldHolder heldOf held-back a b (findAnswer k r x y)
+
+-- and two verdicts of any call that are told alike
+pub one-verdict : (a b : Verdict) (q : Answer (Unit {0})) → told a ≡ q → told b ≡ q → a ≡ b
+one-verdict = one-answer told verdictOf verdict-back

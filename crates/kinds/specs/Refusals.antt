@@ -6,6 +6,8 @@ use Rattle.kinds.specs.Kinds.{kinds, lanes, KnownRole, rows, columns, el
 use Rattle.kinds.specs.declared.Entry.{Entry}
 use Rattle.kinds.specs.declared.Refusal.{Refusal}
 use Rattle.kinds.specs.declared.Refusal.the-variants.{UnknownKind, UnknownRole, NotArithmetic, BadSelectors, WrongLength, Outside, TooWide, BadScale, RunFull, BadRun}
+use Rattle.kinds.specs.declared.Verdict.{Verdict}
+use Rattle.kinds.specs.declared.Verdict.the-variants.{Accepted, Refused}
 
 -- What a call answers, in this paper's numbers: what it gives, or a refusal, which is its number and detail.
 pub data Answer (X : Type 0) : Type 0 where
@@ -38,6 +40,16 @@ detailOf BadRun = 0
 
 abbrev pub refused : {X : Type 0} → Refusal → Answer X
 refused f = refusal (numberOf f) (detailOf f)
+
+-- what each case of a verdict means
+abbrev pub told : Verdict → Answer (Unit {0})
+told Accepted = given tt
+told (Refused f) = refused f
+
+-- It writes nothing: what a buffer holds on return, from what an accepted call makes of it and what it held before.
+abbrev pub after : {X B : Type 0} → Answer X → (new old : B) → B
+after (given x) new old = new
+after (refusal number detail) new old = old
 
 -- 1: kind not 1 to 10
 abbrev pub noKind : ℕ → Bool

@@ -3,6 +3,7 @@ ghost use mathlib.Core.Path.{_≡_};
 ghost use Prim.Native.Nat.{_*_, _<_, _≤_};
 ghost use Rattle.kinds.specs.Kinds.{kinds, entryOf, roleOf, lanes};
 ghost use Rattle.kinds.specs.Rule.{spread, sideOf, layoutOf, elementsOf, majors, minors, Sane, major, minor, laneOf, elementOf};
+ghost use Rattle.kinds.specs.Refusals.{numberOf};
 ghost use Rattle.kinds.specs.Answers.{toldLayout, toldPlace, toldHolder, layoutAnswer, placeAnswer, placeBy, findAnswer, findBy};
 
 // Every number that could be taken for another has its own type. Any u32 may stand in it: what is out of range is refused.
@@ -52,6 +53,32 @@ pub enum Refusal {
     BadScale(u32),
     RunFull,
     BadRun,
+}
+
+impl Refusal {
+    // Document 01's number.
+    pub fn number(self) -> u32
+        ensures { λ r. ⌜ r ≡ numberOf self ⌝ }
+    {
+        match self {
+            Refusal::UnknownKind => 1,
+            Refusal::UnknownRole => 2,
+            Refusal::NotArithmetic => 3,
+            Refusal::BadSelectors => 4,
+            Refusal::WrongLength(_) => 5,
+            Refusal::Outside => 6,
+            Refusal::TooWide(_) => 7,
+            Refusal::BadScale(_) => 8,
+            Refusal::RunFull => 9,
+            Refusal::BadRun => 10,
+        }
+    }
+}
+
+// The answer of a call that gives nothing back but what it writes.
+pub enum Verdict {
+    Accepted,
+    Refused(Refusal),
 }
 
 pub enum Placed {

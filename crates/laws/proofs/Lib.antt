@@ -1,3 +1,4 @@
 pub mod Choice
 pub mod Every
+pub mod Lists
 pub mod Unique
