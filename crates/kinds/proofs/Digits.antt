@@ -1,8 +1,8 @@
 -- The one rule is one to one, once over p and h: the digits of lane and element are those of the major and the minor number, put
 -- together in another order. Assumes nothing.
-use mathlib.Core.Path.{_≡_}
+use mathlib.Core.Path.{_≡_, sym, ap, _∙_}
 use Prim.Native.Nat.{ℕ, _+_, _*_, _/_, _%_, _≤_, _<_}
-use native.Mathlib.Nat.{div-add-mod', mod-lt, div-lt-iff-lt-mul, div-le-self, le-trans}
+use native.Mathlib.Nat.{div-add-mod', mod-lt, div-lt-iff-lt-mul, div-le-self, le-trans, mul-le-mul-right, mul-le-mul-left, mul-le-mul, add-mul, mul-assoc, mul-comm}
 use native.Mathlib.Omega.{arith}
 use lib.Arith.{digits-div, digits-mod, digits-lt}
 use Rattle.kinds.specs.Rule.{major, minor, laneOf, elementOf}
@@ -89,5 +89,29 @@ module _ (p h : ℕ) (p0 : 0 < p) (h0 : 0 < h) where
   unfolding elementOf
   element-lt s x y xl yl = digits-lt (group-lt s x y xl yl) (mod-lt y p0)
 
-pub quotient-le : (i p h : ℕ) → i / p / h ≤ i
-quotient-le i p h = le-trans (div-le-self (i / p) h) (div-le-self i p)
+-- what is put together of digits stays small: over a quotient a of n by p
+module _ (n p : ℕ) where
+  pub quotient-le : (h : ℕ) → n / p / h * p ≤ n
+  quotient-le h = le-trans (mul-le-mul-right p (div-le-self (n / p) h)) (omega (arith, div-add-mod' n p))
+
+  pub digits-le : (a b t : ℕ) → a * p ≤ n → (a * b + t) * p ≤ n * b + t * p
+  digits-le a b t h =
+      let e : (a * b + t) * p ≡ a * p * b + t * p = add-mul (a * b) t p ∙ ap (λ (z : ℕ). z + t * p) (mul-assoc a b p ∙ ap (λ (z : ℕ). a * z) (mul-comm b p) ∙ sym (mul-assoc a p b)) in
+      omega (arith, e, mul-le-mul-right b h)
+
+digit-le : (a b p : ℕ) → a ≤ b → a * p ≤ b * p
+digit-le a b p h = mul-le-mul-right p h
+
+pub minor-small : (p h l i : ℕ) → 0 < p → p ≤ 32 → i ≤ 128 → (i / p / h * 4 + l % 4) * p + i % p < 1024
+minor-small p h l i p0 p1 i1 =
+    omega (arith, digits-le i p (i / p / h) 4 (l % 4) (quotient-le i p h), digit-le (l % 4) 3 p (omega arith), mod-lt i p0)
+
+pub quotient-small : (i p h : ℕ) → i / p / h ≤ i
+quotient-small i p h = le-trans (div-le-self (i / p) h) (div-le-self i p)
+
+pub group-small : (p h y : ℕ) → h ≤ 2 → y / p / 4 * h ≤ y * 2
+group-small p h y h1 = mul-le-mul (quotient-small y p 4) h1
+
+pub element-small : (p h x y : ℕ) → 0 < p → p ≤ 32 → h ≤ 2 → x ≤ 16 → y ≤ 128 → (y / p / 4 * h + x / 8) * p + y % p < 1024
+element-small p h x y p0 p1 h1 x1 y1 =
+    omega (arith, digits-le y p (y / p / 4) h (x / 8) (quotient-le y p 4), mul-le-mul-left y h1, digit-le (x / 8) 2 p (omega arith), mod-lt y p0)

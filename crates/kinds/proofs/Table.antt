@@ -1,10 +1,14 @@
 -- What holds of every line of the kinds table and every role, by tests that antt computes over the whole table. Assumes nothing.
 use mathlib.Core.Path.{_≡_, ap, ap₂, _∙_}
-use Prim.Native.Nat.{ℕ, _-_, _*_, _<_, _≤_}
+use mathlib.Core.Bool.{true, _||_}
+use Prim.Native.Nat.{ℕ, _-_, _*_, _/_, _<_, _≤_}
 use native.Mathlib.Omega.{arith}
+use borrow.Author.Tests.{eqb-true, ne-eqb}
 use lib.Dec.{T, leb, eqb}
+use Rattle.laws.specs.Choice.{_=?_}
 use lib.ListN.{getD}
-use Rattle.laws.proofs.Every.{all₂, all₂-≤, all₂-≡}
+use Rattle.laws.proofs.Every.{all₂, all₂-≤, all₂-≡, all₂-true}
+use Rattle.laws.proofs.Choice.{or-right}
 use Rattle.kinds.specs.Kinds.{kinds, roles, entry, table, entryOf, roleOf, KnownRole, rows, columns, elements, wordBits}
 use Rattle.kinds.specs.Rule.{sideOf, layoutOf, elementsOf, majors, minors, turn, Sane}
 use Rattle.kinds.specs.declared.Entry.{Entry}
@@ -47,10 +51,17 @@ module _ (k r : ℕ) (ok : Legal k r) where
   pub minors-are : turn (layoutAt k r .turned) (rows (entryOf k) (roleOf r), columns (entryOf k) (roleOf r)) .1 ≡ minors (layoutAt k r)
   minors-are = eq-test (λ e ρ. turn (layoutOf e ρ .turned) (rows e ρ, columns e ρ) .1) (λ e ρ. minors (layoutOf e ρ)) tt
 
+  -- every width is 64 or divides a word
+  narrow-test : (layoutAt k r .bits =? 64 || layoutAt k r .bits * (wordBits / layoutAt k r .bits) =? wordBits) ≡ true
+  narrow-test = all₂-true kinds roles (λ j r. layoutOf (line j) (roleOf r) .bits =? 64 || layoutOf (line j) (roleOf r) .bits * (wordBits / layoutOf (line j) (roleOf r) .bits) =? wordBits) tt (k - 1) r (omega arith) (omega arith)
+
   pub sane : Sane (layoutAt k r)
   sane = record {
-    bits-pos = le-test (λ e ρ. 1) (λ e ρ. layoutOf e ρ .bits) tt;
-    bits-le = le-test (λ e ρ. layoutOf e ρ .bits) (λ e ρ. 64) tt;
+    width = record {
+      pos = le-test (λ e ρ. 1) (λ e ρ. layoutOf e ρ .bits) tt;
+      le = le-test (λ e ρ. layoutOf e ρ .bits) (λ e ρ. 64) tt;
+      narrow = λ ne. eqb-true (layoutAt k r .bits * (wordBits / layoutAt k r .bits)) wordBits (or-right (layoutAt k r .bits =? 64) _ (ne-eqb (layoutAt k r .bits) 64 ne) narrow-test);
+    };
     words-pos = le-test (λ e ρ. 1) (λ e ρ. layoutOf e ρ .words) tt;
     words-le = le-test (λ e ρ. layoutOf e ρ .words) (λ e ρ. 8) tt;
     side-pos = le-test (λ e ρ. 1) (λ e ρ. layoutOf e ρ .side) tt;

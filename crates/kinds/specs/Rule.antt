@@ -27,8 +27,12 @@ elementOf p h x y = (y / p / 4 * h + x / 8) * p + y % p
 abbrev pub sideOf : ℕ → ℕ
 sideOf b = if b <? wordBits then wordBits / b else 1
 
+-- a layout from its numbers, and from the major and minor numbers that its matrix has
+abbrev pub shape : (bits words side halves spans : ℕ) → Bool → Layout
+shape b w p h s t = record { bits = b; words = w; side = p; halves = h; spans = s; turned = t }
+
 abbrev pub spread : (bits words side majors minors : ℕ) → Bool → Layout
-spread b w p x y t = record { bits = b; words = w; side = p; halves = x / 8; spans = y / 4 / p; turned = t }
+spread b w p x y t = shape b w p (x / 8) (y / 4 / p) t
 
 -- A is m by k, B is k by n, C is m by n, with C's elements in pairs; in B the major number is the column.
 abbrev pub layoutOf : Entry → KnownRole → Layout
@@ -51,6 +55,13 @@ abbrev pub turn : Bool → ℕ × ℕ → ℕ × ℕ
 turn false x = x
 turn true x = (x .1, x .0)
 
+-- the rows and columns of the matrix
+abbrev pub rowsOf : Layout → ℕ
+rowsOf f = turn (f .turned) (majors f, minors f) .0
+
+abbrev pub columnsOf : Layout → ℕ
+columnsOf f = turn (f .turned) (majors f, minors f) .1
+
 abbrev pub placeIn : Layout → (lane i : ℕ) → ℕ × ℕ
 placeIn f lane i = turn (f .turned) (major (f .side) (f .halves) lane i, minor (f .side) (f .halves) lane i)
 
@@ -60,10 +71,15 @@ holderIn f x = (laneOf (f .side) (x .0) (x .1), elementOf (f .side) (f .halves) 
 abbrev pub holderOf : Layout → ℕ × ℕ → ℕ × ℕ
 holderOf f x = holderIn f (turn (f .turned) x)
 
+-- a width at which elements fill words evenly, or a word's double
+pub record Width (b : ℕ) : Type 0 where
+  pub pos : 0 < b
+  pub le : b ≤ 64
+  pub narrow : (b ≡ 64 → ⊥) → b * (wordBits / b) ≡ wordBits
+
 -- what every layout of the table has
 pub record Sane (f : Layout) : Type 0 where
-  pub bits-pos : 0 < f .bits
-  pub bits-le : f .bits ≤ 64
+  pub width : Width (f .bits)
   pub words-pos : 0 < f .words
   pub words-le : f .words ≤ 8
   pub side-pos : 0 < f .side

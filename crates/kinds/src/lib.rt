@@ -35,10 +35,10 @@ impl Role {
 
 impl Lane {
     // Lanes of a warp.
-    pub const COUNT: u32 = 32;
+    pub const COUNT: usize = 32;
 
     // Lanes of a quad.
-    pub const QUAD: u32 = 4;
+    pub const QUAD: usize = 4;
 }
 
 // The refusals of the whole bench, in the order of their numbers, with the detail where one has it.
@@ -93,14 +93,14 @@ pub enum Held {
 
 // A line of the kinds table: m, n, k; bits of an A or B element, of a C or D element; words per lane of A, of B, of C or D.
 pub struct Entry(
-    pub u32,
-    pub u32,
-    pub u32,
-    pub u32,
-    pub u32,
-    pub u32,
-    pub u32,
-    pub u32,
+    pub usize,
+    pub usize,
+    pub usize,
+    pub usize,
+    pub usize,
+    pub usize,
+    pub usize,
+    pub usize,
 );
 
 const KINDS: [Entry; 10] = [
@@ -130,11 +130,11 @@ impl Entry {
 // How one kind and role lies in a warp: bits of an element and words of a lane; elements side by side, halves of eight rows, spans of
 // four times side columns; turned where the major number is the column, as in B.
 pub struct Layout {
-    pub bits: u32,
-    pub words: u32,
-    pub side: u32,
-    pub halves: u32,
-    pub spans: u32,
+    pub bits: usize,
+    pub words: usize,
+    pub side: usize,
+    pub halves: usize,
+    pub spans: usize,
     pub turned: bool,
 }
 
@@ -145,7 +145,14 @@ pub enum Known {
 
 impl Layout {
     // The layout whose matrix has so many major and minor numbers.
-    fn new(bits: u32, words: u32, side: u32, majors: u32, minors: u32, turned: bool) -> Layout
+    fn new(
+        bits: usize,
+        words: usize,
+        side: usize,
+        majors: usize,
+        minors: usize,
+        turned: bool,
+    ) -> Layout
         requires { ⌜ 0 < side ⌝ }
         ensures { λ r. ⌜ r ≡ spread bits words side majors minors turned ⌝ }
     {
@@ -161,7 +168,7 @@ impl Layout {
 }
 
 // The elements that stand side by side in A and B: as many as a word holds, or one where an element takes two words.
-fn side_of(bits: u32) -> u32
+fn side_of(bits: usize) -> usize
     requires { ⌜ 0 < bits ⌝ }
     ensures { λ r. ⌜ r ≡ sideOf bits ⌝ }
 {
@@ -202,34 +209,36 @@ pub fn layout_of(kind: Kind, role: Role) -> Known
 }
 
 // The major and the minor number of an element.
-fn across(f: Layout, lane: u32, i: u32) -> u32
-    requires { ⌜ Sane f × (lane < lanes) ⌝ }
-    ensures { λ r. ⌜ r ≡ major (f .side) (f .halves) lane i ⌝ }
+pub fn across(side: usize, halves: usize, lane: usize, i: usize) -> usize
+    requires { ⌜ (0 < side) × (0 < halves) × (halves ≤ 2) × (lane < lanes) ⌝ }
+    ensures is { λ r. ⌜ r ≡ major side halves lane i ⌝ }
+    ensures small { λ r. ⌜ r < 16 ⌝ }
 {
-    i / f.side % f.halves * 8 + lane / Lane::QUAD
+    i / side % halves * 8 + lane / Lane::QUAD
 }
 
-fn along(f: Layout, lane: u32, i: u32) -> u32
-    requires { ⌜ Sane f × (i < elementsOf f) ⌝ }
-    ensures { λ r. ⌜ r ≡ minor (f .side) (f .halves) lane i ⌝ }
+pub fn along(side: usize, halves: usize, lane: usize, i: usize) -> usize
+    requires { ⌜ (0 < side) × (side ≤ 32) × (0 < halves) × (i ≤ 128) ⌝ }
+    ensures is { λ r. ⌜ r ≡ minor side halves lane i ⌝ }
+    ensures small { λ r. ⌜ r < 1024 ⌝ }
 {
-    (i / f.side / f.halves * Lane::QUAD + lane % Lane::QUAD) * f.side + i % f.side
+    (i / side / halves * Lane::QUAD + lane % Lane::QUAD) * side + i % side
 }
 
 fn place_in(f: Layout, lane: Lane, element: Element) -> Placed
     requires { ⌜ Sane f ⌝ }
     ensures { λ r. ⌜ toldPlace r ≡ placeBy f (lane .0) (element .0) ⌝ }
 {
-    let l = lane.0;
-    let i = element.0;
+    let l = lane.0 as usize;
+    let i = element.0 as usize;
     if Lane::COUNT <= l {
         return Placed::Refused(Refusal::Outside);
     }
     if f.spans * f.halves * f.side <= i {
         return Placed::Refused(Refusal::Outside);
     }
-    let x = across(f, l, i);
-    let y = along(f, l, i);
+    let x = across(f.side, f.halves, l, i) as u32;
+    let y = along(f.side, f.halves, l, i) as u32;
     if f.turned {
         return Placed::At(Row(y), Column(x));
     }
@@ -247,31 +256,37 @@ pub fn place(kind: Kind, role: Role, lane: Lane, element: Element) -> Placed
 }
 
 // The lane and the element of a major number x and a minor number y.
-fn lane_at(f: Layout, x: u32, y: u32) -> u32
-    requires { ⌜ 0 < f .side ⌝ }
-    ensures { λ r. ⌜ r ≡ laneOf (f .side) x y ⌝ }
+pub fn lane_at(side: usize, x: usize, y: usize) -> usize
+    requires { ⌜ 0 < side ⌝ }
+    ensures is { λ r. ⌜ r ≡ laneOf side x y ⌝ }
+    ensures small { λ r. ⌜ r < lanes ⌝ }
 {
-    x % 8 * Lane::QUAD + y / f.side % Lane::QUAD
+    x % 8 * Lane::QUAD + y / side % Lane::QUAD
 }
 
-fn element_at(f: Layout, x: u32, y: u32) -> u32
-    requires { ⌜ Sane f × (x < majors f) × (y < minors f) ⌝ }
-    ensures { λ r. ⌜ r ≡ elementOf (f .side) (f .halves) x y ⌝ }
+pub fn element_at(side: usize, halves: usize, x: usize, y: usize) -> usize
+    requires { ⌜ (0 < side) × (side ≤ 32) × (halves ≤ 2) × (x ≤ 16) × (y ≤ 128) ⌝ }
+    ensures is { λ r. ⌜ r ≡ elementOf side halves x y ⌝ }
+    ensures small { λ r. ⌜ r < 1024 ⌝ }
 {
-    (y / f.side / Lane::QUAD * f.halves + x / 8) * f.side + y % f.side
+    (y / side / Lane::QUAD * halves + x / 8) * side + y % side
 }
 
 fn find_in(f: Layout, x: u32, y: u32) -> Held
     requires { ⌜ Sane f ⌝ }
     ensures { λ r. ⌜ toldHolder r ≡ findBy f (x, y) ⌝ }
 {
-    if f.halves * 8 <= x {
+    let major = x as usize;
+    let minor = y as usize;
+    if f.halves * 8 <= major {
         return Held::Refused(Refusal::Outside);
     }
-    if f.spans * 4 * f.side <= y {
+    if f.spans * 4 * f.side <= minor {
         return Held::Refused(Refusal::Outside);
     }
-    Held::By(Lane(lane_at(f, x, y)), Element(element_at(f, x, y)))
+    let l = lane_at(f.side, major, minor) as u32;
+    let i = element_at(f.side, f.halves, major, minor) as u32;
+    Held::By(Lane(l), Element(i))
 }
 
 // The reverse question: the lane and the element whose place is at a row and a column.

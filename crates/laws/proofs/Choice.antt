@@ -10,6 +10,10 @@ pub or-false : (a b : Bool) → (a || b) ≡ false → (a ≡ false) × (b ≡ f
 or-false true b e = absurd (true≢false e)
 or-false false b e = (refl, e)
 
+pub or-right : (a b : Bool) → a ≡ false → (a || b) ≡ true → b ≡ true
+or-right true b n e = absurd (true≢false n)
+or-right false b n e = e
+
 pub or-comm : (a b : Bool) → (a || b) ≡ (b || a)
 or-comm true true = refl
 or-comm true false = refl

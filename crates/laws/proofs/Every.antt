@@ -1,6 +1,6 @@
 -- A test that passes at each number below n, which antt computes, holds at any one of them: a table's rule is proved once,
 -- by one computed test. Assumes nothing.
-use mathlib.Core.Path.{_≡_, sym, subst}
+use mathlib.Core.Path.{_≡_, refl, sym, subst}
 use mathlib.Core.Bool.{Bool, true, false, _&&_}
 use Prim.Native.Nat.{ℕ, zero, suc, _<_, _≤_}
 use native.Mathlib.Nat.{not-suc-le-zero}
@@ -28,6 +28,10 @@ pub all-at : (n : ℕ) (f : ℕ → Bool) → T (all n f) → (k : ℕ) → k < 
 all-at zero f t k h = absurd (not-suc-le-zero h)
 all-at (suc n) f t k h = step n f k (left (f n) (all n f) t) (all-at n f (right (f n) (all n f) t) k) h (ℕ-discrete k n)
 
+is-true : (b : Bool) → T b → b ≡ true
+is-true true t = refl
+is-true false t = absurd t
+
 -- the same at two numbers
 module _ (n m : ℕ) where
   abbrev pub all₂ : (ℕ → ℕ → Bool) → Bool
@@ -41,3 +45,6 @@ module _ (n m : ℕ) where
 
   pub all₂-≡ : (f g : ℕ → ℕ → ℕ) → T (all₂ (λ a b. eqb (f a b) (g a b))) → (a b : ℕ) → a < n → b < m → f a b ≡ g a b
   all₂-≡ f g t a b p q = eqb→eq (f a b) (g a b) (all₂-at (λ a b. eqb (f a b) (g a b)) t a b p q)
+
+  pub all₂-true : (f : ℕ → ℕ → Bool) → T (all₂ f) → (a b : ℕ) → a < n → b < m → f a b ≡ true
+  all₂-true f t a b p q = is-true (f a b) (all₂-at f t a b p q)

@@ -1,4 +1,5 @@
 pub mod Choice
 pub mod Every
+pub mod Fields
 pub mod Lists
 pub mod Unique

@@ -15,14 +15,14 @@ rem-result : tie.Need-rem-result
 rem-result c = search needs
 
 mul-result : tie.Need-mul-result
-mul-result c = let s = c .before .before in omega (arith, mod-lt (s .args .i / s .args .f .side) (s .pre .0 .halves-pos))
+mul-result c = omega (arith, mod-lt (c .args .i / c .args .side) (c .pre .1))
 
 add-result : tie.Need-add-result
-add-result c = let s = c .before .before in omega (arith, mod-lt (s .args .i / s .args .f .side) (s .pre .0 .halves-pos))
+add-result c = omega (arith, mod-lt (c .args .i / c .args .side) (c .pre .1))
 
 returns : tie.Need-returns
 unfolding major
-returns c = refl
+returns c = (refl, omega (arith, mod-lt (c .args .i / c .args .side) (c .pre .1)))
 
 pub across-spec : {M : Type 1} → statement M
 across-spec = tie.close (tie.spec div-result rem-result mul-result add-result returns)

@@ -1,10 +1,9 @@
--- The minor number is put together as the rule says; it stays below the minor numbers that there are. Assumes nothing.
+-- The minor number is put together as the rule says; it stays small. Assumes nothing.
 use borrow.Author.Needs.{needs}
 use mathlib.Core.Path.{refl}
-use Prim.Native.Nat.{_*_, _<_, _≤_}
 use native.Mathlib.Omega.{arith}
-use Rattle.kinds.specs.Rule.{minor, minors}
-use Rattle.kinds.proofs.Digits.{quotient-le, minor-lt}
+use Rattle.kinds.specs.Rule.{minor}
+use Rattle.kinds.proofs.Digits.{quotient-small, minor-small}
 use Rattle.kinds.proofs.along.Statement.{statement}
 use Rattle.kinds.proofs.along.Tie as tie
 
@@ -15,29 +14,23 @@ div-result-2 : tie.Need-div-result-2
 div-result-2 c = search needs
 
 mul-result : tie.Need-mul-result
-mul-result c = let s = c .before .before in omega (arith, quotient-le (s .args .i) (s .args .f .side) (s .args .f .halves))
+mul-result c = omega (arith, quotient-small (c .args .i) (c .args .side) (c .args .halves))
 
 add-result : tie.Need-add-result
-add-result c = let s = c .before .before in omega (arith, quotient-le (s .args .i) (s .args .f .side) (s .args .f .halves))
+add-result c = omega (arith, quotient-small (c .args .i) (c .args .side) (c .args .halves))
 
 mul-result-2 : tie.Need-mul-result-2
-unfolding minor
-mul-result-2 c =
-    let s = c .before .before .before in
-    omega (arith, minor-lt (s .args .f .side) (s .args .f .halves) (s .pre .0 .side-pos) (s .pre .0 .halves-pos) (s .args .f .spans) (s .args .lane) (s .args .i) (s .pre .1))
+mul-result-2 c = omega (arith, minor-small (c .args .side) (c .args .halves) (c .args .lane) (c .args .i) (search needs) (search needs) (search needs))
 
 rem-result : tie.Need-rem-result
 rem-result c = search needs
 
 add-result-2 : tie.Need-add-result-2
-unfolding minor
-add-result-2 c =
-    let s = c .before .before .before .before in
-    omega (arith, minor-lt (s .args .f .side) (s .args .f .halves) (s .pre .0 .side-pos) (s .pre .0 .halves-pos) (s .args .f .spans) (s .args .lane) (s .args .i) (s .pre .1))
+add-result-2 c = omega (arith, minor-small (c .args .side) (c .args .halves) (c .args .lane) (c .args .i) (search needs) (search needs) (search needs))
 
 returns : tie.Need-returns
 unfolding minor
-returns c = refl
+returns c = (refl, minor-small (c .args .side) (c .args .halves) (c .args .lane) (c .args .i) (search needs) (search needs) (search needs))
 
 pub along-spec : {M : Type 1} → statement M
 along-spec =

@@ -1,9 +1,9 @@
--- The element is put together as the rule says; it stays below the elements of a lane. Assumes nothing.
+-- The element is put together as the rule says; it stays small. Assumes nothing.
 use borrow.Author.Needs.{needs}
 use mathlib.Core.Path.{refl}
 use native.Mathlib.Omega.{arith}
 use Rattle.kinds.specs.Rule.{elementOf}
-use Rattle.kinds.proofs.Digits.{group-lt, element-lt}
+use Rattle.kinds.proofs.Digits.{group-small, element-small}
 use Rattle.kinds.proofs.element_at.Statement.{statement}
 use Rattle.kinds.proofs.element_at.Tie as tie
 
@@ -11,33 +11,23 @@ div-result : tie.Need-div-result
 div-result c = search needs
 
 mul-result : tie.Need-mul-result
-mul-result c =
-    let s = c .before .before in
-    omega (arith, group-lt (s .args .f .side) (s .args .f .halves) (s .pre .0 .side-pos) (s .pre .0 .halves-pos) (s .args .f .spans) (s .args .x) (s .args .y) (s .pre .1) (s .pre .2))
+mul-result c = omega (arith, group-small (c .args .side) (c .args .halves) (c .args .y) (search needs))
 
 add-result : tie.Need-add-result
-add-result c =
-    let s = c .before .before in
-    omega (arith, group-lt (s .args .f .side) (s .args .f .halves) (s .pre .0 .side-pos) (s .pre .0 .halves-pos) (s .args .f .spans) (s .args .x) (s .args .y) (s .pre .1) (s .pre .2))
+add-result c = omega (arith, group-small (c .args .side) (c .args .halves) (c .args .y) (search needs))
 
 mul-result-2 : tie.Need-mul-result-2
-unfolding elementOf
-mul-result-2 c =
-    let s = c .before .before .before in
-    omega (arith, element-lt (s .args .f .side) (s .args .f .halves) (s .pre .0 .side-pos) (s .pre .0 .halves-pos) (s .args .f .spans) (s .args .x) (s .args .y) (s .pre .1) (s .pre .2))
+mul-result-2 c = omega (arith, element-small (c .args .side) (c .args .halves) (c .args .x) (c .args .y) (search needs) (search needs) (search needs) (search needs) (search needs))
 
 rem-result : tie.Need-rem-result
 rem-result c = search needs
 
 add-result-2 : tie.Need-add-result-2
-unfolding elementOf
-add-result-2 c =
-    let s = c .before .before .before .before in
-    omega (arith, element-lt (s .args .f .side) (s .args .f .halves) (s .pre .0 .side-pos) (s .pre .0 .halves-pos) (s .args .f .spans) (s .args .x) (s .args .y) (s .pre .1) (s .pre .2))
+add-result-2 c = omega (arith, element-small (c .args .side) (c .args .halves) (c .args .x) (c .args .y) (search needs) (search needs) (search needs) (search needs) (search needs))
 
 returns : tie.Need-returns
 unfolding elementOf
-returns c = refl
+returns c = (refl, element-small (c .args .side) (c .args .halves) (c .args .x) (c .args .y) (search needs) (search needs) (search needs) (search needs) (search needs))
 
 pub element-at-spec : {M : Type 1} → statement M
 element-at-spec =

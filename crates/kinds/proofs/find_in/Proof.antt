@@ -29,14 +29,20 @@ returns-2 c =
 lane-at-requires : tie.Need-lane-at-requires
 lane-at-requires c κs = search needs
 
+cast-l : tie.Need-cast-l
+cast-l c = search needs
+
 element-at-requires : tie.Need-element-at-requires
 element-at-requires c κs = search needs
+
+cast-i : tie.Need-cast-i
+cast-i c = search needs
 
 returns-3 : tie.Need-returns-3
 unfolding findBy
 returns-3 c =
     let s = c .before .before .before .before .before .before .before in
-    simp (lt-leb (majors (s .args .f)) (s .args .x) (search needs), lt-leb (minors (s .args .f)) (s .args .y) (search needs), c .before .lane-at .ensures, c .element-at .ensures)
+    simp (lt-leb (majors (s .args .f)) (s .args .x) (search needs), lt-leb (minors (s .args .f)) (s .args .y) (search needs), c .before .lane-at .ensures .0, c .element-at .ensures .0)
 
 pub find-in-spec : {M : Type 1} → statement M
 find-in-spec =
@@ -48,5 +54,7 @@ find-in-spec =
     mul-if2-2
     returns-2
     lane-at-requires
+    cast-l
     element-at-requires
+    cast-i
     returns-3)

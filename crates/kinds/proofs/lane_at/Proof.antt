@@ -1,6 +1,7 @@
 -- The lane is put together as the rule says. Assumes nothing.
 use borrow.Author.Needs.{needs}
 use mathlib.Core.Path.{refl}
+use native.Mathlib.Omega.{arith}
 use Rattle.kinds.specs.Rule.{laneOf}
 use Rattle.kinds.proofs.lane_at.Statement.{statement}
 use Rattle.kinds.proofs.lane_at.Tie as tie
@@ -16,7 +17,7 @@ add-result c = search needs
 
 returns : tie.Need-returns
 unfolding laneOf
-returns c = refl
+returns c = (refl, omega arith)
 
 pub lane-at-spec : {M : Type 1} → statement M
 lane-at-spec = tie.close (tie.spec mul-result div-result add-result returns)

@@ -1,0 +1,85 @@
+-- Laws of fields: a joined number has the fields that it was joined of, a number is joined of its fields, and a field of a wide field is a
+-- field of the whole. Assumes nothing.
+use mathlib.Core.Path.{_≡_, refl, sym, ap, ap₂, _∙_, subst}
+use mathlib.Core.Logic.{⊎-elim}
+use Prim.Native.Nat.{ℕ, zero, suc, _+_, _-_, _*_, _/_, _%_, _^_, _≤_, _<_}
+use native.Mathlib.Nat.{not-suc-le-zero, le-of-suc-le-suc, eq-or-lt-of-le, mul-suc, mul-le-mul-left, mod-eq-of-lt, mod-lt, mul-assoc, mul-comm, mul-add, add-comm, le-refl, mul-zero, mul-one, mod-one}
+use native.Mathlib.Omega.{arith}
+use native.Mathlib.Numerals.{add-one}
+use lib.Arith.{digits-lt}
+use lib.Pow.{pow-pos, pow-add, shr-shr, high, low, mod-pow-add, mod-mod-pow}
+use lib.Pow
+use Rattle.laws.specs.Fields.{field, joined}
+
+pub field-lt : (b j w : ℕ) → field b j w < 2 ^ b
+unfolding field
+field-lt b j w = mod-lt (w / 2 ^ (b * j)) (pow-pos b)
+
+exp-suc : (b n : ℕ) → 2 ^ (b + b * n) ≡ 2 ^ (b * suc n)
+exp-suc b n = ap (λ (e : ℕ). 2 ^ e) (add-comm b (b * n) ∙ sym (mul-suc b n))
+
+pub joined-lt : (b n : ℕ) (f : ℕ → ℕ) → ((k : ℕ) → k < n → f k < 2 ^ b) → joined b n f < 2 ^ (b * n)
+unfolding joined
+joined-lt b zero f h = pow-pos (b * 0)
+joined-lt b (suc n) f h =
+    subst (λ (m : ℕ). f n * 2 ^ (b * n) + joined b n f < m) (sym (pow-add 2 b (b * n)) ∙ exp-suc b n)
+    (digits-lt (h n (le-refl (suc n))) (joined-lt b n f (λ k l. h k (omega arith))))
+
+-- the fields below bit N are those of the number modulo 2 ^ N
+pub field-mod : (b j x N : ℕ) → b * suc j ≤ N → field b j (x % 2 ^ N) ≡ field b j x
+unfolding field
+field-mod b j x N l =
+    sym (lib.Pow.field (x % 2 ^ N) b (b * j))
+    ∙ ap (λ (y : ℕ). y / 2 ^ (b * j)) (go (b + b * j) (N - (b + b * j)) (omega (arith, mul-suc b j)))
+    ∙ lib.Pow.field x b (b * j)
+  where
+    go : (k d : ℕ) → N ≡ d + k → x % 2 ^ N % 2 ^ k ≡ x % 2 ^ k
+    go k d e = rw e (mod-mod-pow x d k)
+
+joined-top : (b n : ℕ) (f : ℕ → ℕ) → ((k : ℕ) → k < suc n → f k < 2 ^ b) → field b n (joined b (suc n) f) ≡ f n
+unfolding joined field
+joined-top b n f h = rw (high (f n) (b * n) (joined-lt b n f (λ k l. h k (omega arith)))) (mod-eq-of-lt (h n (le-refl (suc n))))
+
+joined-below : (b n : ℕ) (f : ℕ → ℕ) → ((k : ℕ) → k < suc n → f k < 2 ^ b) → (j : ℕ) → j < n → field b j (joined b (suc n) f) ≡ field b j (joined b n f)
+unfolding joined
+joined-below b n f h j l =
+    sym (field-mod b j (f n * 2 ^ (b * n) + joined b n f) (b * n) (mul-le-mul-left b l))
+    ∙ ap (field b j) (low (f n) (b * n) (joined-lt b n f (λ k l. h k (omega arith))))
+
+-- a joined number has the fields that it was joined of
+pub field-joined : (b n : ℕ) (f : ℕ → ℕ) → ((k : ℕ) → k < n → f k < 2 ^ b) → (j : ℕ) → j < n → field b j (joined b n f) ≡ f j
+field-joined b zero f h j l = absurd (not-suc-le-zero l)
+field-joined b (suc n) f h j l =
+    ⊎-elim (λ e. rw e (joined-top b n f h))
+    (λ l′. joined-below b n f h j l′ ∙ field-joined b n f (λ k m. h k (omega arith)) j l′)
+    (eq-or-lt-of-le (le-of-suc-le-suc l))
+
+-- a number is joined of its fields
+pub joined-field : (b n w : ℕ) → joined b n (λ j. field b j w) ≡ w % 2 ^ (b * n)
+unfolding joined field
+joined-field b zero w = sym (rw mul-zero (mod-one w))
+joined-field b (suc n) w = ap (λ (r : ℕ). w / 2 ^ (b * n) % 2 ^ b * 2 ^ (b * n) + r) (joined-field b n w) ∙ sym (mod-pow-add w b (b * n)) ∙ ap (λ (m : ℕ). w % m) (exp-suc b n)
+
+pub joined-ext : (b n : ℕ) (f g : ℕ → ℕ) → ((k : ℕ) → k < n → f k ≡ g k) → joined b n f ≡ joined b n g
+unfolding joined
+joined-ext b zero f g h = refl
+joined-ext b (suc n) f g h = ap₂ (λ x y. x * 2 ^ (b * n) + y) (h n (le-refl (suc n))) (joined-ext b n f g (λ k l. h k (omega arith)))
+
+-- a field of a wider field
+pub field-field : (b c k j v : ℕ) → j < c → field b j (field (b * c) k v) ≡ field b (k * c + j) v
+unfolding field
+field-field b c k j v l =
+    field-mod b j (v / 2 ^ (b * c * k)) (b * c) (mul-le-mul-left b l)
+    ∙ ap (λ (y : ℕ). y % 2 ^ b) (shr-shr v (b * c * k) (b * j) ∙ ap (λ (e : ℕ). v / 2 ^ e) (sym (mul-add b (k * c) j ∙ ap (λ (z : ℕ). z + b * j) (ap (λ (z : ℕ). b * z) (mul-comm k c) ∙ sym (mul-assoc b c k)))))
+
+-- a wide field is joined of the narrow fields in it
+pub field-wide : (b c k v : ℕ) → field (b * c) k v ≡ joined b c (λ j. field b (k * c + j) v)
+field-wide b c k v =
+    sym (mod-eq-of-lt (field-lt (b * c) k v))
+    ∙ sym (joined-field b c (field (b * c) k v))
+    ∙ joined-ext b c (λ j. field b j (field (b * c) k v)) (λ j. field b (k * c + j) v) (λ j l. field-field b c k j v l)
+
+-- the number of two fields
+pub joined-two : (b : ℕ) (f : ℕ → ℕ) → joined b 2 f ≡ f 1 * 2 ^ b + f 0
+unfolding joined
+joined-two b f = rw (mul-one b, mul-zero b) (omega arith)
