@@ -9,7 +9,7 @@ use Rattle.laws.specs.Choice.{if_then_else_, _≤?_}
 use Rattle.laws.proofs.Choice.{or-false, or-comm}
 use Rattle.kinds.specs.Kinds.{lanes, entryOf, kindOf, roleOf, rows, columns, elements}
 use Rattle.kinds.specs.Places.{placeOf}
-use Rattle.kinds.specs.Rule.{elementsOf, majors, minors, turn, placeIn, holderIn, holderOf, Sane, major, minor, laneOf, elementOf}
+use Rattle.kinds.specs.Rule.{elementsOf, majors, minors, turn, placeIn, holderIn, holderOf, Laid, major, minor, laneOf, elementOf}
 use Rattle.kinds.specs.Refusals.{Answer, given, refusal, refused, judged, numberOf, detailOf, noElement, noEntry}
 use Rattle.kinds.specs.Answers.{toldLayout, layoutAnswer, placeAnswer, findAnswer, placeBy, findBy}
 use Rattle.kinds.specs.declared.Layout.{Layout}
@@ -29,8 +29,8 @@ layout-given k r f e =
     let g : layoutAt k r ≡ f = cc in
     (a .0, sym g)
 
-pub layout-sane : (k r : ℕ) (f : Layout) → layoutAnswer k r ≡ given f → Sane f
-layout-sane k r f e = let a = layout-given k r f e in subst Sane (sym (a .1)) (sane k r (a .0))
+pub layout-sane : (k r : ℕ) (f : Layout) → layoutAnswer k r ≡ given f → Laid f
+layout-sane k r f e = let a = layout-given k r f e in subst Laid (sym (a .1)) (sane k r (a .0))
 
 pub place-legal : (k r l i : ℕ) (z : ℕ × ℕ) → placeAnswer k r l i ≡ given z → Legal k r
 unfolding placeAnswer
@@ -90,21 +90,24 @@ module _ (k r : ℕ) (a : Known) (told : toldLayout a ≡ layoutAnswer k r) wher
   known-given : (f : Layout) → a ≡ As f → layoutAnswer k r ≡ given f
   known-given f e = sym told ∙ ap toldLayout e
 
-  pub known-sane : (f : Layout) → a ≡ As f → Sane f
+  pub known-legal : (f : Layout) → a ≡ As f → Legal k r × (f ≡ layoutAt k r)
+  known-legal f e = layout-given k r f (known-given f e)
+
+  pub known-sane : (f : Layout) → a ≡ As f → Laid f
   known-sane f e = layout-sane k r f (known-given f e)
 
   pub known-placed : (f : Layout) → a ≡ As f → (l i : ℕ) → placeBy f l i ≡ placeAnswer k r l i
   known-placed f e l i =
-      let g = layout-given k r f (known-given f e) in
+      let g = known-legal f e in
       ap (λ (f : Layout). placeBy f l i) (g .1) ∙ place-is k r (g .0) l i
 
   pub known-found : (f : Layout) → a ≡ As f → (x y : ℕ) → findBy f (turn (f .turned) (x, y)) ≡ findAnswer k r x y
   known-found f e x y =
-      let g = layout-given k r f (known-given f e) in
+      let g = known-legal f e in
       ap (λ (f : Layout). findBy f (turn (f .turned) (x, y))) (g .1) ∙ find-is k r (g .0) x y
 
   module _ (x : Refusal) (e : a ≡ Known·Refused x) where
-    handed-on : {X : Type 0} (rest : Answer X) → refused x ≡ judged k r rest
+    pub handed-on : {X : Type 0} (rest : Answer X) → refused x ≡ judged k r rest
     unfolding layoutAnswer
     handed-on rest = judged-refused k r (layoutAt k r) rest (numberOf x) (detailOf x) (sym (ap toldLayout e) ∙ told)
 
@@ -126,7 +129,7 @@ placed f l i x y t hl hi ex ey et =
     ∙ sym (ap (λ (b : Bool). if b then refusal 6 0 else given (placeIn f l i)) (inside-is lanes (elementsOf f) l i hl hi))
 
 -- one to one in a layout, once over p and h
-module _ (f : Layout) (ok : Sane f) where
+module _ (f : Layout) (ok : Laid f) where
   abbrev p : ℕ
   p = f .side
 

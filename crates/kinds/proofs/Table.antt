@@ -9,8 +9,8 @@ use Rattle.laws.specs.Choice.{_=?_}
 use lib.ListN.{getD}
 use Rattle.laws.proofs.Every.{all₂, all₂-≤, all₂-≡, all₂-true}
 use Rattle.laws.proofs.Choice.{or-right}
-use Rattle.kinds.specs.Kinds.{kinds, roles, entry, table, entryOf, roleOf, KnownRole, rows, columns, elements, wordBits}
-use Rattle.kinds.specs.Rule.{sideOf, layoutOf, elementsOf, majors, minors, turn, Sane}
+use Rattle.kinds.specs.Kinds.{kinds, roles, entry, table, entryOf, roleOf, KnownRole, rows, columns, bits, words, elements, wordBits}
+use Rattle.kinds.specs.Rule.{sideOf, layoutOf, elementsOf, majors, minors, rowsOf, columnsOf, turn, Laid}
 use Rattle.kinds.specs.declared.Entry.{Entry}
 use Rattle.kinds.specs.declared.Layout.{Layout}
 
@@ -51,11 +51,24 @@ module _ (k r : ℕ) (ok : Legal k r) where
   pub minors-are : turn (layoutAt k r .turned) (rows (entryOf k) (roleOf r), columns (entryOf k) (roleOf r)) .1 ≡ minors (layoutAt k r)
   minors-are = eq-test (λ e ρ. turn (layoutOf e ρ .turned) (rows e ρ, columns e ρ) .1) (λ e ρ. minors (layoutOf e ρ)) tt
 
+  pub rows-are : rows (entryOf k) (roleOf r) ≡ rowsOf (layoutAt k r)
+  rows-are = eq-test rows (λ e ρ. rowsOf (layoutOf e ρ)) tt
+
+  pub columns-are : columns (entryOf k) (roleOf r) ≡ columnsOf (layoutAt k r)
+  columns-are = eq-test columns (λ e ρ. columnsOf (layoutOf e ρ)) tt
+
+  -- the bits and the words are the table's
+  pub bits-are : bits (entryOf k) (roleOf r) ≡ layoutAt k r .bits
+  bits-are = eq-test bits (λ e ρ. layoutOf e ρ .bits) tt
+
+  pub words-are : words (entryOf k) (roleOf r) ≡ layoutAt k r .words
+  words-are = eq-test words (λ e ρ. layoutOf e ρ .words) tt
+
   -- every width is 64 or divides a word
   narrow-test : (layoutAt k r .bits =? 64 || layoutAt k r .bits * (wordBits / layoutAt k r .bits) =? wordBits) ≡ true
   narrow-test = all₂-true kinds roles (λ j r. layoutOf (line j) (roleOf r) .bits =? 64 || layoutOf (line j) (roleOf r) .bits * (wordBits / layoutOf (line j) (roleOf r) .bits) =? wordBits) tt (k - 1) r (omega arith) (omega arith)
 
-  pub sane : Sane (layoutAt k r)
+  pub sane : Laid (layoutAt k r)
   sane = record {
     width = record {
       pos = le-test (λ e ρ. 1) (λ e ρ. layoutOf e ρ .bits) tt;

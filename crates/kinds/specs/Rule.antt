@@ -77,18 +77,21 @@ pub record Width (b : ℕ) : Type 0 where
   pub le : b ≤ 64
   pub narrow : (b ≡ 64 → ⊥) → b * (wordBits / b) ≡ wordBits
 
--- what every layout of the table has
-pub record Sane (f : Layout) : Type 0 where
-  pub width : Width (f .bits)
-  pub words-pos : 0 < f .words
-  pub words-le : f .words ≤ 8
-  pub side-pos : 0 < f .side
-  pub side-le : f .side ≤ 32
-  pub halves-pos : 0 < f .halves
-  pub halves-le : f .halves ≤ 2
-  pub spans-pos : 0 < f .spans
-  pub spans-le : f .spans ≤ 2
-  pub groups-le : f .spans * f .halves ≤ 4
-  pub elements-le : elementsOf f ≤ 64
-  pub minors-le : minors f ≤ 128
-  pub full : f .bits * elementsOf f ≡ wordBits * f .words
+-- what the numbers of every layout of the table have
+pub record Sane (bits words side halves spans : ℕ) : Type 0 where
+  pub width : Width bits
+  pub words-pos : 0 < words
+  pub words-le : words ≤ 8
+  pub side-pos : 0 < side
+  pub side-le : side ≤ 32
+  pub halves-pos : 0 < halves
+  pub halves-le : halves ≤ 2
+  pub spans-pos : 0 < spans
+  pub spans-le : spans ≤ 2
+  pub groups-le : spans * halves ≤ 4
+  pub elements-le : spans * halves * side ≤ 64
+  pub minors-le : spans * 4 * side ≤ 128
+  pub full : bits * (spans * halves * side) ≡ wordBits * words
+
+abbrev pub Laid : Layout → Type 0
+Laid f = Sane (f .bits) (f .words) (f .side) (f .halves) (f .spans)

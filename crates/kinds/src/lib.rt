@@ -2,7 +2,7 @@
 ghost use mathlib.Core.Path.{_≡_};
 ghost use Prim.Native.Nat.{_*_, _<_, _≤_};
 ghost use Rattle.kinds.specs.Kinds.{kinds, entryOf, roleOf, lanes};
-ghost use Rattle.kinds.specs.Rule.{spread, sideOf, layoutOf, elementsOf, majors, minors, Sane, major, minor, laneOf, elementOf};
+ghost use Rattle.kinds.specs.Rule.{spread, sideOf, layoutOf, elementsOf, majors, minors, Laid, major, minor, laneOf, elementOf};
 ghost use Rattle.kinds.specs.Refusals.{numberOf};
 ghost use Rattle.kinds.specs.Answers.{toldLayout, toldPlace, toldHolder, layoutAnswer, placeAnswer, placeBy, findAnswer, findBy};
 
@@ -226,7 +226,7 @@ pub fn along(side: usize, halves: usize, lane: usize, i: usize) -> usize
 }
 
 fn place_in(f: Layout, lane: Lane, element: Element) -> Placed
-    requires { ⌜ Sane f ⌝ }
+    requires { ⌜ Laid f ⌝ }
     ensures { λ r. ⌜ toldPlace r ≡ placeBy f (lane .0) (element .0) ⌝ }
 {
     let l = lane.0 as usize;
@@ -273,7 +273,7 @@ pub fn element_at(side: usize, halves: usize, x: usize, y: usize) -> usize
 }
 
 fn find_in(f: Layout, x: u32, y: u32) -> Held
-    requires { ⌜ Sane f ⌝ }
+    requires { ⌜ Laid f ⌝ }
     ensures { λ r. ⌜ toldHolder r ≡ findBy f (x, y) ⌝ }
 {
     let major = x as usize;
