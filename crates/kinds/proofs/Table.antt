@@ -64,16 +64,20 @@ module _ (k r : ℕ) (ok : Legal k r) where
   pub words-are : words (entryOf k) (roleOf r) ≡ layoutAt k r .words
   words-are = eq-test words (λ e ρ. layoutOf e ρ .words) tt
 
-  -- every width is 64 or divides a word
-  narrow-test : (layoutAt k r .bits =? 64 || layoutAt k r .bits * (wordBits / layoutAt k r .bits) =? wordBits) ≡ true
-  narrow-test = all₂-true kinds roles (λ j r. layoutOf (line j) (roleOf r) .bits =? 64 || layoutOf (line j) (roleOf r) .bits * (wordBits / layoutOf (line j) (roleOf r) .bits) =? wordBits) tt (k - 1) r (omega arith) (omega arith)
+  -- what is tested of every width but 64
+  narrow-test : (f g : Entry → KnownRole → ℕ) → T (all₂ kinds roles (λ j r. layoutOf (line j) (roleOf r) .bits =? 64 || f (line j) (roleOf r) =? g (line j) (roleOf r)))
+      → (layoutAt k r .bits ≡ 64 → ⊥) → f (entryOf k) (roleOf r) ≡ g (entryOf k) (roleOf r)
+  narrow-test f g t ne =
+      eqb-true (f (entryOf k) (roleOf r)) (g (entryOf k) (roleOf r))
+      (or-right (layoutAt k r .bits =? 64) _ (ne-eqb (layoutAt k r .bits) 64 ne)
+      (all₂-true kinds roles (λ j r. layoutOf (line j) (roleOf r) .bits =? 64 || f (line j) (roleOf r) =? g (line j) (roleOf r)) t (k - 1) r (omega arith) (omega arith)))
 
   pub sane : Laid (layoutAt k r)
   sane = record {
     width = record {
       pos = le-test (λ e ρ. 1) (λ e ρ. layoutOf e ρ .bits) tt;
       le = le-test (λ e ρ. layoutOf e ρ .bits) (λ e ρ. 64) tt;
-      narrow = λ ne. eqb-true (layoutAt k r .bits * (wordBits / layoutAt k r .bits)) wordBits (or-right (layoutAt k r .bits =? 64) _ (ne-eqb (layoutAt k r .bits) 64 ne) narrow-test);
+      narrow = narrow-test (λ e ρ. layoutOf e ρ .bits * (wordBits / layoutOf e ρ .bits)) (λ e ρ. wordBits) tt;
     };
     words-pos = le-test (λ e ρ. 1) (λ e ρ. layoutOf e ρ .words) tt;
     words-le = le-test (λ e ρ. layoutOf e ρ .words) (λ e ρ. 8) tt;
@@ -87,4 +91,5 @@ module _ (k r : ℕ) (ok : Legal k r) where
     elements-le = le-test (λ e ρ. elementsOf (layoutOf e ρ)) (λ e ρ. 64) tt;
     minors-le = le-test (λ e ρ. minors (layoutOf e ρ)) (λ e ρ. 128) tt;
     full = eq-test (λ e ρ. layoutOf e ρ .bits * elementsOf (layoutOf e ρ)) (λ e ρ. wordBits * layoutOf e ρ .words) tt;
+    aligned = narrow-test (λ e ρ. layoutOf e ρ .side / (wordBits / layoutOf e ρ .bits) * (wordBits / layoutOf e ρ .bits)) (λ e ρ. layoutOf e ρ .side) tt;
   }

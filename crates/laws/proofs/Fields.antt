@@ -83,3 +83,8 @@ field-wide b c k v =
 pub joined-two : (b : ℕ) (f : ℕ → ℕ) → joined b 2 f ≡ f 1 * 2 ^ b + f 0
 unfolding joined
 joined-two b f = rw (mul-one b, mul-zero b) (omega arith)
+
+-- one field more
+pub joined-more : (b n : ℕ) (f : ℕ → ℕ) → joined b (n + 1) f ≡ f n * 2 ^ (b * n) + joined b n f
+unfolding joined
+joined-more b n f = rw add-one

@@ -95,3 +95,32 @@ module _ {A : Type 0} where
   fills-all n f xs d e =
       is-tab n f (fills 0 n f xs) d (length-fills 0 n f xs ∙ e)
       (λ k l. ap (λ (i : ℕ). getD (fills 0 n f xs) i d) (sym (zero-add k)) ∙ fills-in 0 f xs d n k (omega arith) l)
+
+  -- a part that was lent, filled and put back
+  stored : (n : ℕ) (f : ℕ → A) (xs : List A) → n < length xs → set (tab n f ++ drop n xs) n (f n) ≡ tab (suc n) f ++ drop (suc n) xs
+  unfolding tab
+  stored n f [] l = absurd (not-suc-le-zero l)
+  stored zero f (x ∷ xs) l = refl
+  stored (suc n) f (x ∷ xs) l = ap (λ (t : List A). f zero ∷ t) (stored n (λ k. f (suc k)) xs (le-of-suc-le-suc l))
+
+  from-front : (n : ℕ) (f : ℕ → A) (xs : List A) → n ≤ length xs → fills 0 n f xs ≡ tab n f ++ drop n xs
+  unfolding fills tab
+  from-front zero f xs l = refl
+  from-front (suc n) f xs l =
+      ap₂ (λ (ys : List A) (i : ℕ). set ys i (f n)) (from-front n f xs (omega arith)) (zero-add n)
+      ∙ stored n f xs l
+
+  past-first : (a n : ℕ) (f : ℕ → A) (x : A) (xs : List A) → fills (suc a) n f (x ∷ xs) ≡ x ∷ fills a n f xs
+  unfolding fills
+  past-first a zero f x xs = refl
+  past-first a (suc n) f x xs = ap₂ (λ (ys : List A) (i : ℕ). set ys i (f n)) (past-first a n f x xs) (suc-add a n)
+
+  put-back : (a w : ℕ) (f : ℕ → A) (xs : List A) → a + w ≤ length xs → take a xs ++ (tab w f ++ drop w (drop a xs)) ≡ fills a w f xs
+  put-back zero w f xs l = sym (from-front w f xs (omega arith))
+  put-back (suc a) w f [] l = absurd (omega (arith, suc-add a w))
+  put-back (suc a) w f (x ∷ xs) l = ap (λ (t : List A). x ∷ t) (put-back a w f xs (omega (arith, suc-add a w))) ∙ sym (past-first a w f x xs)
+
+  pub fills-part : (a w : ℕ) (f : ℕ → A) (xs : List A) → a + w ≤ length xs → take a xs ++ (tab w f ++ drop (a + w - a) (drop a xs)) ≡ fills a w f xs
+  fills-part a w f xs l =
+      let e : a + w - a ≡ w = omega arith in
+      ap (λ (n : ℕ). take a xs ++ (tab w f ++ drop n (drop a xs))) e ∙ put-back a w f xs l

@@ -1,2 +1,3 @@
 pub mod Elements
+pub mod Places
 pub mod Answers

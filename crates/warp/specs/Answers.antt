@@ -1,8 +1,8 @@
 -- Document 01, 'Refusal numbers': unpack 1, 2, 5 (words, matrix); pack 1, 2, 5 (matrix, words), 7. Assumes nothing.
-use Prim.Native.Nat.{ℕ, suc, _*_, _^_}
+use Prim.Native.Nat.{ℕ, suc, _*_, _^_, _<_}
 use mathlib.Core.Bool.{not}
 use mathlib.Core.List.{List, [], _∷_}
-use lib.ListN.{length}
+use lib.ListN.{length, getD}
 use Rattle.laws.specs.Choice.{if_then_else_, _<?_, _=?_}
 use Rattle.kinds.specs.Kinds.{lanes, entryOf, roleOf, rows, columns, bits, words}
 use Rattle.kinds.specs.Rule.{rowsOf, columnsOf}
@@ -20,6 +20,10 @@ entriesNeeded k r = rows (entryOf k) (roleOf r) * columns (entryOf k) (roleOf r)
 unfoldable pub firstWide : (bits : ℕ) → List ℕ → ℕ
 firstWide b [] = 0
 firstWide b (x ∷ xs) = if x <? 2 ^ b then suc (firstWide b xs) else 0
+
+-- every entry fits so many bits
+abbrev pub Fitting : (bits : ℕ) → List ℕ → Type 0
+Fitting b m = (x : ℕ) → x < length m → getD m x 0 < 2 ^ b
 
 unfoldable pub unpackAnswer : (kind role words matrix : ℕ) → Answer (Unit {0})
 unpackAnswer k r ws m =

@@ -1,7 +1,9 @@
 -- Document 01, 'Kinds': what stands in a warp buffer and in a matrix buffer. Assumes nothing.
 use Prim.Native.Nat.{ℕ, _+_, _*_}
+use mathlib.Core.Path.{_≡_}
+use mathlib.Core.Bool.{Bool, true, false}
 use mathlib.Core.List.{List}
-use lib.ListN.{getD}
+use lib.ListN.{length, getD}
 use Rattle.laws.specs.Fields.{field, joined}
 use Rattle.laws.specs.Lists.{tab, blocks}
 use Rattle.kinds.specs.Kinds.{lanes, wordBits, entryOf, roleOf}
@@ -20,12 +22,22 @@ elementAt bits words ws lane i = field bits i (laneNumber words ws lane)
 abbrev pub index : (columns : ℕ) → ℕ × ℕ → ℕ
 index columns x = x .0 * columns + x .1
 
+-- the step in a matrix buffer from a minor number to the next
+abbrev pub stepOf : (turned : Bool) → (columns : ℕ) → ℕ
+stepOf false columns = 1
+stepOf true columns = columns
+
 -- Unpacking: the entry at a row and a column is the element whose place it is.
 unfoldable pub entryAt : Layout → List ℕ → (row column : ℕ) → ℕ
 entryAt f ws row column = elementAt (f .bits) (f .words) ws (holderOf f (row, column) .0) (holderOf f (row, column) .1)
 
 unfoldable pub unpacked : Layout → List ℕ → List ℕ
 unpacked f ws = tab (rowsOf f * columnsOf f) (blocks (columnsOf f) (entryAt f ws))
+
+-- a buffer that holds a layout's matrix
+pub record Matrix (f : Layout) (columns : ℕ) (m : List ℕ) : Type 0 where
+  pub wide : columns ≡ columnsOf f
+  pub whole : length m ≡ rowsOf f * columnsOf f
 
 -- Packing: each element of a lane is the entry at its place; the lane's words are the words of that number.
 unfoldable pub wordAt : Layout → List ℕ → (lane k : ℕ) → ℕ
