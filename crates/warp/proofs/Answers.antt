@@ -64,3 +64,10 @@ module _ (k r : ℕ) (ok : Legal k r) where
   unpack-is ws m =
       ap₂ (λ (a b : ℕ). if not (ws =? a) then refusal 5 0 else if not (m =? b) then refusal 5 1 else given tt) words-needed entries-needed
       ∙ sym (judged-is k r _ ok)
+
+  pub pack-is : (m : List ℕ) (ws : ℕ) → packBy (layoutAt k r) m ws ≡ packAnswer k r m ws
+  unfolding packBy packAnswer
+  pack-is m ws =
+      ap₂ (λ (a b : ℕ). if not (length m =? a) then refusal 5 0 else if not (ws =? b) then refusal 5 1 else if firstWide (layoutAt k r .bits) m <? length m then refusal 7 (firstWide (layoutAt k r .bits) m) else given tt) entries-needed words-needed
+      ∙ ap (λ (b : ℕ). if not (length m =? entriesNeeded k r) then refusal 5 0 else if not (ws =? wordsNeeded k r) then refusal 5 1 else if firstWide b m <? length m then refusal 7 (firstWide b m) else given tt) (sym (bits-are k r ok))
+      ∙ sym (judged-is k r _ ok)

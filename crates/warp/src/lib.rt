@@ -518,3 +518,182 @@ fn first_wide(matrix: &[u64], bits: usize) -> usize
     }
     i
 }
+
+// The same as fill_words, with the numbers of each width written out.
+fn fill_words_by_width(matrix: &[u64], words: &mut [u32], f: Layout, columns: usize)
+    requires { ⌜ Laid f × Fitting (f .bits) (now matrix) ⌝ }
+    requires { ⌜ Matrix f columns (now matrix) × (length (now words) ≡ lanes * f .words) ⌝ }
+    ensures { λ _. ⌜ now (words .exit) ≡ packed f (now (matrix .entry)) ⌝ }
+{
+    let bits = f.bits;
+    let side = f.side;
+    if bits == 1 {
+        if side == 32 {
+            fill_words(
+                matrix,
+                words,
+                1,
+                f.words,
+                32,
+                f.halves,
+                f.spans,
+                f.turned,
+                columns,
+            );
+            return;
+        }
+    }
+    if bits == 4 {
+        if side == 8 {
+            fill_words(
+                matrix,
+                words,
+                4,
+                f.words,
+                8,
+                f.halves,
+                f.spans,
+                f.turned,
+                columns,
+            );
+            return;
+        }
+    }
+    if bits == 8 {
+        if side == 4 {
+            fill_words(
+                matrix,
+                words,
+                8,
+                f.words,
+                4,
+                f.halves,
+                f.spans,
+                f.turned,
+                columns,
+            );
+            return;
+        }
+    }
+    if bits == 16 {
+        if side == 2 {
+            fill_words(
+                matrix,
+                words,
+                16,
+                f.words,
+                2,
+                f.halves,
+                f.spans,
+                f.turned,
+                columns,
+            );
+            return;
+        }
+    }
+    if bits == 32 {
+        if side == 1 {
+            fill_words(
+                matrix,
+                words,
+                32,
+                f.words,
+                1,
+                f.halves,
+                f.spans,
+                f.turned,
+                columns,
+            );
+            return;
+        }
+        if side == 2 {
+            fill_words(
+                matrix,
+                words,
+                32,
+                f.words,
+                2,
+                f.halves,
+                f.spans,
+                f.turned,
+                columns,
+            );
+            return;
+        }
+    }
+    if bits == 64 {
+        if side == 1 {
+            fill_words(
+                matrix,
+                words,
+                64,
+                f.words,
+                1,
+                f.halves,
+                f.spans,
+                f.turned,
+                columns,
+            );
+            return;
+        }
+        if side == 2 {
+            fill_words(
+                matrix,
+                words,
+                64,
+                f.words,
+                2,
+                f.halves,
+                f.spans,
+                f.turned,
+                columns,
+            );
+            return;
+        }
+    }
+    fill_words(
+        matrix,
+        words,
+        bits,
+        f.words,
+        side,
+        f.halves,
+        f.spans,
+        f.turned,
+        columns,
+    );
+}
+
+fn pack_in(f: Layout, matrix: &[u64], words: &mut [u32]) -> Verdict
+    requires { ⌜ Laid f ⌝ }
+    ensures { λ r. ⌜ told r ≡ packBy f (now (matrix .entry)) (length (now (words .entry))) ⌝ }
+    ensures { λ r. ⌜ now (words .exit) ≡ after (told r) (packed f (now (matrix .entry))) (now (words .entry)) ⌝ }
+{
+    let each = f.words;
+    let bits = f.bits;
+    let rows = rows_in(f);
+    let columns = columns_in(f);
+    if matrix.len() != rows * columns {
+        return Verdict::Refused(Refusal::WrongLength(0));
+    }
+    if words.len() != Lane::COUNT * each {
+        return Verdict::Refused(Refusal::WrongLength(1));
+    }
+    let wide = first_wide(matrix, bits);
+    if wide < matrix.len() {
+        return Verdict::Refused(Refusal::TooWide(wide));
+    }
+    fill_words_by_width(matrix, words, f, columns);
+    Verdict::Accepted
+}
+
+// The row-major matrix of bit patterns to lane words.
+pub fn pack(kind: Kind, role: Role, matrix: &[u64], words: &mut [u32]) -> Verdict
+    ensures { λ r. ⌜ told r ≡ packAnswer (kind .0) (role .0) (now (matrix .entry)) (length (now (words .entry))) ⌝ }
+    ensures { λ r. ⌜ now (words .exit) ≡ after (told r) (packedOf (kind .0) (role .0) (now (matrix .entry))) (now (words .entry)) ⌝ }
+{
+    match kinds::layout_of(kind, role) {
+        Known::As(f) => pack_in(f, matrix, words),
+        Known::Refused(x) => Verdict::Refused(x),
+    }
+}
