@@ -41,6 +41,9 @@ unfolding findAnswer
 find-legal k r x y z e =
     judged-given k r (if noEntry (entryOf k) (roleOf r) x y then refusal 6 0 else given (holderOf (layoutAt k r) (x, y))) z e .0
 
+given-back : {x y : ℕ × ℕ} → given x ≡ given y → x ≡ y
+given-back e = cc
+
 -- two choices by one test that give alike where it lets pass
 alike : (t : Bool) (x y : ℕ × ℕ) → (t ≡ false → x ≡ y) → (if t then refusal 6 0 else given x) ≡ (if t then refusal 6 0 else given y)
 alike true x y h = refl
@@ -128,6 +131,18 @@ placed f l i x y t hl hi ex ey et =
     ∙ ap (λ (t : Bool). given (turn t (major (f .side) (f .halves) l i, minor (f .side) (f .halves) l i))) (sym et)
     ∙ sym (ap (λ (b : Bool). if b then refusal 6 0 else given (placeIn f l i)) (inside-is lanes (elementsOf f) l i hl hi))
 
+-- a place that was given is the rule's, of a lane and an element that there are; and the rule's place is given
+pub placed-inside : (f : Layout) (l i : ℕ) (z : ℕ × ℕ) → placeBy f l i ≡ given z → (l < lanes) × (i < elementsOf f) × (z ≡ placeIn f l i)
+unfolding placeBy
+placed-inside f l i z e =
+    let a = passed (lanes ≤? l || elementsOf f ≤? i) 6 0 (given (placeIn f l i)) e in
+    let b = inside lanes (elementsOf f) l i (a .0) in
+    (b .0, b .1, sym (given-back (a .1)))
+
+pub rule-placed : (f : Layout) (l i : ℕ) → l < lanes → i < elementsOf f → placeBy f l i ≡ given (placeIn f l i)
+unfolding placeBy
+rule-placed f l i hl hi = ap (λ (t : Bool). if t then refusal 6 0 else given (placeIn f l i)) (inside-is lanes (elementsOf f) l i hl hi)
+
 -- one to one in a layout, once over p and h
 module _ (f : Layout) (ok : Laid f) where
   abbrev p : ℕ
@@ -138,9 +153,6 @@ module _ (f : Layout) (ok : Laid f) where
 
   abbrev s : ℕ
   s = f .spans
-
-  given-back : {x y : ℕ × ℕ} → given x ≡ given y → x ≡ y
-  given-back e = cc
 
   pub place-find : (l i : ℕ) (z : ℕ × ℕ) → placeBy f l i ≡ given z → findBy f (turn (f .turned) z) ≡ given (l, i)
   unfolding placeBy findBy

@@ -53,10 +53,10 @@ pub with-width : (f : Layout) (b p : ℕ) → f .bits ≡ b → f .side ≡ p �
 with-width f b p eb ep = ap₂ (λ (b p : ℕ). record { bits = b; words = f .words; side = p; halves = f .halves; spans = f .spans; turned = f .turned }) eb ep
 
 module _ (k r : ℕ) (ok : Legal k r) where
-  words-needed : lanes * layoutAt k r .words ≡ wordsNeeded k r
+  pub words-needed : lanes * layoutAt k r .words ≡ wordsNeeded k r
   words-needed = ap (λ (n : ℕ). lanes * n) (sym (words-are k r ok))
 
-  entries-needed : rowsOf (layoutAt k r) * columnsOf (layoutAt k r) ≡ entriesNeeded k r
+  pub entries-needed : rowsOf (layoutAt k r) * columnsOf (layoutAt k r) ≡ entriesNeeded k r
   entries-needed = ap₂ (λ (m n : ℕ). m * n) (sym (rows-are k r ok)) (sym (columns-are k r ok))
 
   pub unpack-is : (ws m : ℕ) → unpackBy (layoutAt k r) ws m ≡ unpackAnswer k r ws m

@@ -1,3 +1,5 @@
 pub mod Elements
 pub mod Places
 pub mod Answers
+pub mod Round
+pub mod Promises

@@ -3,7 +3,7 @@ use mathlib.Core.Path.{_≡_, refl, sym, ap, ap₂, _∙_, subst}
 use mathlib.Core.Bool.{Bool, true, false}
 use mathlib.Core.List.{List}
 use Prim.Native.Nat.{ℕ, zero, suc, _+_, _*_, _/_, _%_, _^_, _≤_, _<_, zero-le, suc-le-suc}
-use native.Mathlib.Nat.{mul-assoc, add-mul, add-assoc, add-zero, zero-mul, mod-lt, div-add-mod', eq-of-mul-eq-mul-left, mul-comm, mul-le-mul-right, suc-mul}
+use native.Mathlib.Nat.{mul-assoc, add-mul, add-assoc, add-zero, zero-mul, mod-lt, div-add-mod', eq-of-mul-eq-mul-left, mul-comm, mul-pos, mul-le-mul-right, suc-mul}
 use native.Mathlib.Omega.{arith}
 use lib.Arith.{digits-lt, digits-div, digits-mod}
 use lib.ListN.{length, getD}
@@ -98,3 +98,10 @@ module _ (f : Layout) (ok : Laid f) where
       go : (t : Bool) → turn t (majors f, minors f) .1 ≤ 128
       go false = ok .minors-le
       go true = omega (arith, ok .halves-le)
+
+  pub columns-pos : 0 < columnsOf f
+  columns-pos = go (f .turned)
+    where
+      go : (t : Bool) → 0 < turn t (majors f, minors f) .1
+      go false = mul-pos (mul-pos (ok .spans-pos) (omega arith)) (ok .side-pos)
+      go true = omega (arith, ok .halves-pos)

@@ -6,7 +6,7 @@ use mathlib.Core.List.{List}
 use lib.ListN.{length, getD}
 use Rattle.laws.specs.Fields.{field, joined}
 use Rattle.laws.specs.Lists.{tab, blocks}
-use Rattle.kinds.specs.Kinds.{lanes, wordBits, entryOf, roleOf}
+use Rattle.kinds.specs.Kinds.{lanes, wordBits, entryOf, roleOf, bits, words}
 use Rattle.kinds.specs.Rule.{layoutOf, elementsOf, rowsOf, columnsOf, placeIn, holderOf}
 use Rattle.kinds.specs.declared.Layout.{Layout}
 
@@ -47,6 +47,9 @@ unfoldable pub packed : Layout → List ℕ → List ℕ
 packed f m = tab (lanes * f .words) (blocks (f .words) (wordAt f m))
 
 -- the same of a kind and a role
+abbrev pub elementIn : (kind role : ℕ) → List ℕ → (lane i : ℕ) → ℕ
+elementIn k r ws lane i = elementAt (bits (entryOf k) (roleOf r)) (words (entryOf k) (roleOf r)) ws lane i
+
 abbrev pub unpackedOf : (kind role : ℕ) → List ℕ → List ℕ
 unpackedOf k r ws = unpacked (layoutOf (entryOf k) (roleOf r)) ws
 

@@ -1,0 +1,143 @@
+-- What document 01 and demand 2 promise of unpacking and packing, a sentence above its statement. Assumes nothing.
+use mathlib.Core.Path.{_≡_, refl, sym, ap, ap₂, _∙_, subst}
+use mathlib.Core.List.{List}
+use mathlib.Core.Bool.{not}
+use Prim.Native.Nat.{ℕ, _+_, _*_, _^_, _≤_, _<_}
+use native.Mathlib.Omega.{arith}
+use borrow.Author.Tests.{eqb-true, ltb-false, not-false}
+use lib.ListN.{length, getD}
+use Rattle.laws.specs.Choice.{if_then_else_, _<?_, _=?_}
+use Rattle.kinds.specs.Kinds.{lanes, entryOf, roleOf, rows, columns, bits, words, elements}
+use Rattle.kinds.specs.Rule.{Laid, elementsOf, rowsOf, columnsOf, placeIn, holderOf}
+use Rattle.kinds.specs.Refusals.{Answer, given, refusal, told, after}
+use Rattle.kinds.specs.Answers.{placeAnswer, placeBy}
+use Rattle.kinds.specs.declared.Layout.{Layout}
+use Rattle.kinds.specs.declared.Verdict.{Verdict}
+use Rattle.kinds.proofs.Table.{Legal, layoutAt, sane, rows-are, columns-are, bits-are, words-are}
+use Rattle.kinds.proofs.Judged.{passed, judged-given}
+use Rattle.kinds.proofs.Answers.{place-is, placed-inside, rule-placed, place-legal}
+use Rattle.kinds.proofs.Promises.{one-verdict}
+use Rattle.warp.specs.Buffers.{elementAt, elementIn, index, unpacked, packed, unpackedOf, packedOf}
+use Rattle.warp.specs.Answers.{wordsNeeded, entriesNeeded, firstWide, Fitting, unpackAnswer, packAnswer}
+use Rattle.warp.proofs.Answers.{words-needed, entries-needed, first-fits, first-le}
+use Rattle.warp.proofs.Round as round
+
+-- An accepted call had a legal kind and role and the lengths that they need, and a matrix to be packed had entries that fit.
+pub unpack-accepted : (k r ws m : ℕ) → unpackAnswer k r ws m ≡ given tt → Legal k r × (ws ≡ wordsNeeded k r) × (m ≡ entriesNeeded k r)
+unfolding unpackAnswer
+unpack-accepted k r ws m e =
+    let a = judged-given k r _ tt e in
+    let b = passed (not (ws =? wordsNeeded k r)) 5 0 _ (a .1) in
+    let c = passed (not (m =? entriesNeeded k r)) 5 1 _ (b .1) in
+    (a .0, eqb-true ws (wordsNeeded k r) (not-false _ (b .0)), eqb-true m (entriesNeeded k r) (not-false _ (c .0)))
+
+pub pack-accepted : (k r : ℕ) (m : List ℕ) (ws : ℕ) → packAnswer k r m ws ≡ given tt → Legal k r × (length m ≡ entriesNeeded k r) × (ws ≡ wordsNeeded k r) × Fitting (bits (entryOf k) (roleOf r)) m
+unfolding packAnswer
+pack-accepted k r m ws e =
+    let β = bits (entryOf k) (roleOf r) in
+    let a = judged-given k r _ tt e in
+    let b = passed (not (length m =? entriesNeeded k r)) 5 0 _ (a .1) in
+    let c = passed (not (ws =? wordsNeeded k r)) 5 1 _ (b .1) in
+    let d = passed (firstWide β m <? length m) 7 (firstWide β m) _ (c .1) in (
+      a .0,
+      eqb-true (length m) (entriesNeeded k r) (not-false _ (b .0)),
+      eqb-true ws (wordsNeeded k r) (not-false _ (c .0)),
+      first-fits β m (omega (arith, first-le β m, ltb-false (firstWide β m) (length m) (d .0))),
+    )
+
+-- the index of a place in the matrix of a kind and a role
+abbrev pub indexIn : (kind role : ℕ) → ℕ × ℕ → ℕ
+indexIn k r x = index (columns (entryOf k) (roleOf r)) x
+
+-- a place is the rule's, of a lane and an element that there are
+module _ (k r lane i : ℕ) (x : ℕ × ℕ) (e : placeAnswer k r lane i ≡ given x) where
+  legal : Legal k r
+  legal = place-legal k r lane i x e
+
+  placed : (lane < lanes) × (i < elementsOf (layoutAt k r)) × (x ≡ placeIn (layoutAt k r) lane i)
+  placed = placed-inside (layoutAt k r) lane i x (place-is k r legal lane i ∙ e)
+
+module _ (k r : ℕ) (ok : Legal k r) where
+  abbrev f : Layout
+  f = layoutAt k r
+
+  laid : Laid f
+  laid = sane k r ok
+
+  index-is : (x : ℕ × ℕ) → index (columnsOf f) x ≡ indexIn k r x
+  index-is x = ap (λ (n : ℕ). index n x) (sym (columns-are k r ok))
+
+  element-is : (ws : List ℕ) (lane i : ℕ) → elementAt (f .bits) (f .words) ws lane i ≡ elementIn k r ws lane i
+  element-is ws lane i = ap₂ (λ (b w : ℕ). elementAt b w ws lane i) (sym (bits-are k r ok)) (sym (words-are k r ok))
+
+  -- the entry at a place of a matrix
+  abbrev At : List ℕ → List ℕ → Type 0
+  At ws m = (lane i : ℕ) (x : ℕ × ℕ) → placeAnswer k r lane i ≡ given x → getD m (indexIn k r x) 0 ≡ elementIn k r ws lane i
+
+  at-rule : (ws m : List ℕ) → At ws m → (lane i : ℕ) → lane < lanes → i < elementsOf f → getD m (index (columnsOf f) (placeIn f lane i)) 0 ≡ elementAt (f .bits) (f .words) ws lane i
+  at-rule ws m at lane i hl hi =
+      ap (λ (z : ℕ). getD m z 0) (index-is (placeIn f lane i))
+      ∙ at lane i (placeIn f lane i) (sym (place-is k r ok lane i) ∙ rule-placed f lane i hl hi)
+      ∙ sym (element-is ws lane i)
+
+-- 'the entry at the place of (lane, element) is that element's field of the lane's words, for every lane and element'
+pub unpacked-at : (k r : ℕ) (ws : List ℕ) (lane i : ℕ) (x : ℕ × ℕ) → placeAnswer k r lane i ≡ given x → getD (unpackedOf k r ws) (indexIn k r x) 0 ≡ elementIn k r ws lane i
+unpacked-at k r ws lane i x e =
+    let ok = legal k r lane i x e in
+    let p = placed k r lane i x e in
+    ap (λ (z : ℕ). getD (unpackedOf k r ws) z 0) (sym (index-is k r ok x) ∙ ap (index (columnsOf (layoutAt k r))) (p .2))
+    ∙ round.unpacked-at (layoutAt k r) (laid k r ok) ws lane i (p .0) (p .1)
+    ∙ element-is k r ok ws lane i
+
+-- and no other matrix has that property.
+pub unpacked-only : (k r : ℕ) → Legal k r → (ws m : List ℕ) → length m ≡ entriesNeeded k r
+    → ((lane i : ℕ) (x : ℕ × ℕ) → placeAnswer k r lane i ≡ given x → getD m (indexIn k r x) 0 ≡ elementIn k r ws lane i) → m ≡ unpackedOf k r ws
+unpacked-only k r ok ws m n at = round.unpacked-only (layoutAt k r) (laid k r ok) ws m (n ∙ sym (entries-needed k r ok)) (at-rule k r ok ws m at)
+
+-- 'every field of every word is the entry at its place'
+pub packed-at : (k r : ℕ) (m : List ℕ) (n : ℕ) → packAnswer k r m n ≡ given tt → (lane i : ℕ) (x : ℕ × ℕ) → placeAnswer k r lane i ≡ given x
+    → elementIn k r (packedOf k r m) lane i ≡ getD m (indexIn k r x) 0
+packed-at k r m n a lane i x e =
+    let c = pack-accepted k r m n a in
+    let ok = c .0 in
+    let p = placed k r lane i x e in
+    sym (element-is k r ok (packedOf k r m) lane i)
+    ∙ round.packed-at (layoutAt k r) (laid k r ok) m (subst (λ (b : ℕ). Fitting b m) (bits-are k r ok) (c .3)) (c .1 ∙ sym (entries-needed k r ok)) lane i (p .0) (p .1)
+    ∙ ap (λ (z : ℕ). getD m z 0) (ap (index (columnsOf (layoutAt k r))) (sym (p .2)) ∙ index-is k r ok x)
+
+-- and no other words have that property.
+pub packed-only : (k r : ℕ) → Legal k r → (m ws : List ℕ) → length m ≡ entriesNeeded k r → length ws ≡ wordsNeeded k r → Fitting 32 ws
+    → ((lane i : ℕ) (x : ℕ × ℕ) → placeAnswer k r lane i ≡ given x → elementIn k r ws lane i ≡ getD m (indexIn k r x) 0) → ws ≡ packedOf k r m
+packed-only k r ok m ws nm nw fw at =
+    round.packed-only (layoutAt k r) (laid k r ok) m ws (nm ∙ sym (entries-needed k r ok)) fw (nw ∙ sym (words-needed k r ok))
+    (λ lane i hl hi. sym (at-rule k r ok ws m (λ lane i x e. sym (at lane i x e)) lane i hl hi))
+
+-- 'Unpacking what was packed gives the matrix back': for every accepted pack.
+pub pack-unpack : (k r : ℕ) (m : List ℕ) (n : ℕ) → packAnswer k r m n ≡ given tt → unpackedOf k r (packedOf k r m) ≡ m
+pack-unpack k r m n a =
+    let c = pack-accepted k r m n a in
+    let ok = c .0 in
+    round.pack-unpack (layoutAt k r) (laid k r ok) m (subst (λ (b : ℕ). Fitting b m) (bits-are k r ok) (c .3)) (c .1 ∙ sym (entries-needed k r ok))
+
+-- 'and packing what was unpacked the words': for every warp of 32-bit words of the right length.
+pub unpack-pack : (k r : ℕ) → Legal k r → (ws : List ℕ) → length ws ≡ wordsNeeded k r → Fitting 32 ws → packedOf k r (unpackedOf k r ws) ≡ ws
+unpack-pack k r ok ws n fit = round.unpack-pack (layoutAt k r) (laid k r ok) ws fit (n ∙ sym (words-needed k r ok))
+
+-- 'No boat reaches another boat's row': the entries of a row depend only on the elements whose places lie in that row.
+pub own-row : (k r : ℕ) → Legal k r → (ws ws′ : List ℕ) (row : ℕ) → row < rows (entryOf k) (roleOf r)
+    → ((lane i column : ℕ) → placeAnswer k r lane i ≡ given (row, column) → elementIn k r ws lane i ≡ elementIn k r ws′ lane i)
+    → (column : ℕ) → column < columns (entryOf k) (roleOf r) → getD (unpackedOf k r ws) (indexIn k r (row, column)) 0 ≡ getD (unpackedOf k r ws′) (indexIn k r (row, column)) 0
+own-row k r ok ws ws′ row hr same column hc =
+    let f = layoutAt k r in
+    let o = sane k r ok in
+    let hr′ : row < rowsOf f = subst (λ (n : ℕ). row < n) (rows-are k r ok) hr in
+    let hc′ : column < columnsOf f = subst (λ (n : ℕ). column < n) (columns-are k r ok) hc in
+    let l = holderOf f (row, column) .0 in
+    let i = holderOf f (row, column) .1 in
+    let e : placeAnswer k r l i ≡ given (row, column)
+    = sym (place-is k r ok l i) ∙ rule-placed f l i (round.lane-in f o row column hr′ hc′) (round.element-in f o row column hr′ hc′) ∙ ap given (round.place-back f o row column hr′ hc′) in
+    unpacked-at k r ws l i (row, column) e ∙ same l i column e ∙ sym (unpacked-at k r ws′ l i (row, column) e)
+
+-- No second answer: two verdicts, with what stands in the buffer on return, that meet the contract for the same inputs are equal.
+pub one-unpacking : (a b : Verdict) (q : Answer (Unit {0})) (new old x y : List ℕ) → told a ≡ q → told b ≡ q → x ≡ after (told a) new old → y ≡ after (told b) new old → (a ≡ b) × (x ≡ y)
+one-unpacking a b q new old x y p r ex ey = (one-verdict a b q p r, ex ∙ ap (λ (t : Answer (Unit {0})). after t new old) (p ∙ sym r) ∙ sym ey)
