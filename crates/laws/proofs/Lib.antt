@@ -2,4 +2,8 @@ pub mod Choice
 pub mod Every
 pub mod Fields
 pub mod Lists
+pub mod Bits
+pub mod Differences
+pub mod Integers
+pub mod Totals
 pub mod Unique
