@@ -49,7 +49,7 @@ pub fn element(words: &[u32], bits: usize, each: usize, lane: usize, i: usize) -
 }
 
 // The entry at a major number x and a minor number y.
-fn entry_at(
+pub fn entry_at(
     words: &[u32],
     bits: usize,
     each: usize,
