@@ -2,12 +2,11 @@
 -- and each undoes the other. Assumes nothing.
 use mathlib.Core.Path.{_≡_, refl, sym, ap, ap₂, subst, _∙_}
 use mathlib.Core.Bool.{Bool, true, false, _||_}
-use Prim.Native.Nat.{ℕ, _*_, _<_, _≤_}
-use native.Mathlib.Omega.{arith}
+use Prim.Native.Nat.{ℕ, _<_}
 use borrow.Author.Tests.{leb-false, lt-leb}
 use Rattle.laws.specs.Choice.{if_then_else_, _≤?_}
 use Rattle.laws.proofs.Choice.{or-false, or-comm}
-use Rattle.kinds.specs.Kinds.{lanes, entryOf, kindOf, roleOf, rows, columns, elements}
+use Rattle.kinds.specs.Kinds.{lanes, entryOf, kindOf, roleOf, rows, columns}
 use Rattle.kinds.specs.Places.{placeOf}
 use Rattle.kinds.specs.Rule.{elementsOf, majors, minors, turn, placeIn, holderIn, holderOf, Laid, major, minor, laneOf, elementOf}
 use Rattle.kinds.specs.Refusals.{Answer, given, refusal, refused, judged, numberOf, detailOf, noElement, noEntry}

@@ -1,8 +1,8 @@
 -- A chain of refusals, link by link: what was given passed every test, and a refusal of the kind or the role stands in every call.
 -- Assumes nothing.
 use mathlib.Core.Path.{_≡_, refl}
-use mathlib.Core.Bool.{Bool, true, false, not, _&&_}
-use Prim.Native.Nat.{ℕ, _≤_, _<_}
+use mathlib.Core.Bool.{Bool, true, false, _&&_}
+use Prim.Native.Nat.{ℕ}
 use native.Mathlib.Omega.{arith}
 use borrow.Author.Tests.{leb-true, le-leb, not-false}
 use Rattle.laws.specs.Choice.{if_then_else_, _≤?_}

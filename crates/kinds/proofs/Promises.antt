@@ -1,14 +1,14 @@
 -- What document 01 and demand 2 promise of places, a sentence above its statement. Assumes nothing.
 use mathlib.Core.Path.{_≡_, refl, sym, ap, _∙_}
 use mathlib.Core.Logic.{_↔_}
-use mathlib.Core.List.{List, [], _∷_}
-use Prim.Native.Nat.{ℕ, _<_, _≤_}
+use mathlib.Core.List.{[], _∷_}
+use Prim.Native.Nat.{ℕ, _<_}
 use lib.ListN.{getD}
-use Rattle.kinds.specs.Kinds.{kinds, lanes, kindOf, entryOf, roleOf, elements}
+use Rattle.kinds.specs.Kinds.{lanes, kindOf, entryOf, roleOf, elements}
 use Rattle.kinds.specs.Places.{placeOf}
-use Rattle.kinds.specs.Rule.{layoutOf, placeIn, turn}
-use Rattle.kinds.specs.Refusals.{Answer, given, refusal, refused, told, numberOf, detailOf}
-use Rattle.kinds.specs.Answers.{placeAnswer, findAnswer, placeBy, findBy, toldPlace, toldHolder}
+use Rattle.kinds.specs.Rule.{placeIn, turn}
+use Rattle.kinds.specs.Refusals.{Answer, given, refusal, told, numberOf, detailOf}
+use Rattle.kinds.specs.Answers.{placeAnswer, findAnswer, toldPlace, toldHolder}
 use Rattle.kinds.specs.declared.Refusal.{Refusal}
 use Rattle.kinds.specs.declared.Refusal.the-variants.{UnknownKind, UnknownRole, NotArithmetic, BadSelectors, WrongLength, Outside, TooWide, BadScale, RunFull, BadRun}
 use Rattle.kinds.specs.declared.Verdict.{Verdict}

@@ -1,6 +1,6 @@
 -- What holds of every line of the kinds table and every role, by tests that antt computes over the whole table. Assumes nothing.
-use mathlib.Core.Path.{_≡_, ap, ap₂, _∙_}
-use mathlib.Core.Bool.{true, _||_}
+use mathlib.Core.Path.{_≡_}
+use mathlib.Core.Bool.{_||_}
 use Prim.Native.Nat.{ℕ, _-_, _*_, _/_, _<_, _≤_}
 use native.Mathlib.Omega.{arith}
 use borrow.Author.Tests.{eqb-true, ne-eqb}

@@ -189,6 +189,18 @@ fn layout_in(e: Entry, role: Role) -> Layout
     Layout::new(e.3, e.5, side_of(e.3), e.0, e.2, false)
 }
 
+impl Layout {
+    // The layout of a kind and a role that are legal.
+    pub fn of(kind: Kind, role: Role) -> Layout
+        requires { ⌜ (1 ≤ kind .0) × (kind .0 ≤ kinds) × (role .0 ≤ 2) ⌝ }
+        ensures is { λ r. ⌜ r ≡ layoutOf (entryOf (kind .0)) (roleOf (role .0)) ⌝ }
+        ensures laid { λ r. ⌜ Laid r ⌝ }
+    {
+        let e = Entry::of(kind);
+        layout_in(e, role)
+    }
+}
+
 // The layout of a kind and a role, or refusal 1 or 2.
 pub fn layout_of(kind: Kind, role: Role) -> Known
     ensures { λ r. ⌜ toldLayout r ≡ layoutAnswer (kind .0) (role .0) ⌝ }
@@ -204,8 +216,7 @@ pub fn layout_of(kind: Kind, role: Role) -> Known
     if Role::C < r {
         return Known::Refused(Refusal::UnknownRole);
     }
-    let e = Entry::of(kind);
-    Known::As(layout_in(e, role))
+    Known::As(Layout::of(kind, role))
 }
 
 // The major and the minor number of an element.

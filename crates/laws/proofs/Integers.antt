@@ -6,7 +6,7 @@ use Prim.Native.Nat.{ℕ, zero, suc, _+_, _*_, _-_, _/_, _%_, _^_, _<_, _≤_, m
 use native.Mathlib.Omega.{arith}
 use lib.Dec.{T, ltb, ltb→lt, nltb→le}
 use lib.IntN.{ℤ, pos, negsuc, subℕ, _+ℤ_, _*ℤ_}
-use Rattle.laws.specs.Choice.{if_then_else_, _<?_}
+use Rattle.laws.specs.Choice.{if_then_else_}
 use Rattle.laws.specs.Integers.{value, sumZ, int32, word32, clamp}
 use Rattle.laws.specs.Totals.{Wraps}
 use Rattle.laws.proofs.Differences.{Norm, plus, minus, norm, is-pos, is-neg, sub-eq, sub-add, sub-mul, up, down, as-diff}

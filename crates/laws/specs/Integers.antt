@@ -1,5 +1,5 @@
 -- Integers and the 32-bit words that stand for them. Assumes nothing.
-use Prim.Native.Nat.{ℕ, zero, suc, _+_, _*_, _-_, _%_, _^_, min}
+use Prim.Native.Nat.{ℕ, zero, suc, _*_, _-_, _%_, _^_, min}
 use mathlib.Core.Bool.{Bool, true, false}
 use lib.IntN.{ℤ, pos, negsuc, subℕ, _+ℤ_}
 use Rattle.laws.specs.Choice.{if_then_else_, _<?_}

@@ -8,9 +8,9 @@ use native.Mathlib.Omega.{arith}
 use borrow.Author.Tests.{lt-ltb, le-ltb, ltb-true}
 use lib.ListN.{length, getD}
 use Rattle.laws.specs.Choice.{if_then_else_, _<?_, _=?_}
-use Rattle.kinds.specs.Kinds.{lanes, entryOf, roleOf, bits}
+use Rattle.kinds.specs.Kinds.{lanes, bits}
 use Rattle.kinds.specs.Rule.{rowsOf, columnsOf}
-use Rattle.kinds.specs.Refusals.{Answer, given, refusal, judged}
+use Rattle.kinds.specs.Refusals.{given, refusal}
 use Rattle.kinds.specs.declared.Layout.{Layout}
 use Rattle.kinds.proofs.Table.{Legal, layoutAt, rows-are, columns-are, bits-are, words-are}
 use Rattle.kinds.proofs.Judged.{judged-is}

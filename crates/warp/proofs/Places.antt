@@ -1,12 +1,10 @@
 -- The index of a place is inside the matrix, and the elements of a word stand side by side: their indices are a step apart. Assumes nothing.
-use mathlib.Core.Path.{_≡_, refl, sym, ap, ap₂, _∙_, subst}
+use mathlib.Core.Path.{_≡_, sym, ap, ap₂, _∙_, subst}
 use mathlib.Core.Bool.{Bool, true, false}
-use mathlib.Core.List.{List}
-use Prim.Native.Nat.{ℕ, zero, suc, _+_, _*_, _/_, _%_, _^_, _≤_, _<_, zero-le, suc-le-suc}
-use native.Mathlib.Nat.{mul-assoc, add-mul, add-assoc, add-zero, zero-mul, mod-lt, div-add-mod', eq-of-mul-eq-mul-left, mul-comm, mul-pos, mul-le-mul-right, suc-mul}
+use Prim.Native.Nat.{ℕ, zero, suc, _+_, _*_, _/_, _%_, _≤_, _<_, zero-le, suc-le-suc}
+use native.Mathlib.Nat.{mul-assoc, add-mul, add-assoc, add-zero, zero-mul, mod-lt, div-add-mod', eq-of-mul-eq-mul-left, mul-comm, mul-pos}
 use native.Mathlib.Omega.{arith}
 use lib.Arith.{digits-lt, digits-div, digits-mod}
-use lib.ListN.{length, getD}
 use Rattle.laws.proofs.Lists.{block-le}
 use Rattle.kinds.specs.Kinds.{lanes}
 use Rattle.kinds.specs.Rule.{Laid, elementsOf, majors, minors, rowsOf, columnsOf, turn, major, minor, placeIn}

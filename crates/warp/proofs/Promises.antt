@@ -1,23 +1,23 @@
 -- What document 01 and demand 2 promise of unpacking and packing, a sentence above its statement. Assumes nothing.
-use mathlib.Core.Path.{_≡_, refl, sym, ap, ap₂, _∙_, subst}
+use mathlib.Core.Path.{_≡_, sym, ap, ap₂, _∙_, subst}
 use mathlib.Core.List.{List}
 use mathlib.Core.Bool.{not}
-use Prim.Native.Nat.{ℕ, _+_, _*_, _^_, _≤_, _<_}
+use Prim.Native.Nat.{ℕ, _<_}
 use native.Mathlib.Omega.{arith}
 use borrow.Author.Tests.{eqb-true, ltb-false, not-false}
 use lib.ListN.{length, getD}
-use Rattle.laws.specs.Choice.{if_then_else_, _<?_, _=?_}
-use Rattle.kinds.specs.Kinds.{lanes, entryOf, roleOf, rows, columns, bits, words, elements}
+use Rattle.laws.specs.Choice.{_<?_, _=?_}
+use Rattle.kinds.specs.Kinds.{lanes, entryOf, roleOf, rows, columns, bits, words}
 use Rattle.kinds.specs.Rule.{Laid, elementsOf, rowsOf, columnsOf, placeIn, holderOf}
-use Rattle.kinds.specs.Refusals.{Answer, given, refusal, told, after}
-use Rattle.kinds.specs.Answers.{placeAnswer, placeBy}
+use Rattle.kinds.specs.Refusals.{Answer, given, told, after}
+use Rattle.kinds.specs.Answers.{placeAnswer}
 use Rattle.kinds.specs.declared.Layout.{Layout}
 use Rattle.kinds.specs.declared.Verdict.{Verdict}
 use Rattle.kinds.proofs.Table.{Legal, layoutAt, sane, rows-are, columns-are, bits-are, words-are}
 use Rattle.kinds.proofs.Judged.{passed, judged-given}
 use Rattle.kinds.proofs.Answers.{place-is, placed-inside, rule-placed, place-legal}
 use Rattle.kinds.proofs.Promises.{one-verdict}
-use Rattle.warp.specs.Buffers.{elementAt, elementIn, index, unpacked, packed, unpackedOf, packedOf}
+use Rattle.warp.specs.Buffers.{elementAt, elementIn, index, unpackedOf, packedOf}
 use Rattle.warp.specs.Answers.{wordsNeeded, entriesNeeded, firstWide, Fitting, unpackAnswer, packAnswer}
 use Rattle.warp.proofs.Answers.{words-needed, entries-needed, first-fits, first-le}
 use Rattle.warp.proofs.Round as round

@@ -1,19 +1,19 @@
 -- Unpacking and packing in a layout are two readings of each lane's number: by elements and by words. So each undoes the other.
 -- Assumes nothing.
-use mathlib.Core.Path.{_≡_, refl, sym, ap, ap₂, _∙_, subst}
+use mathlib.Core.Path.{_≡_, sym, ap, ap₂, _∙_, subst}
 use mathlib.Core.Bool.{Bool, true, false}
 use mathlib.Core.List.{List}
-use Prim.Native.Nat.{ℕ, _+_, _*_, _/_, _%_, _^_, _≤_, _<_}
+use Prim.Native.Nat.{ℕ, _+_, _*_, _/_, _%_, _^_, _<_}
 use native.Mathlib.Nat.{mod-eq-of-lt, mod-lt, div-add-mod', div-lt-iff-lt-mul}
 use native.Mathlib.Omega.{arith}
 use lib.Arith.{digits-lt, digits-div, digits-mod}
 use lib.ListN.{length, getD}
 use Rattle.laws.specs.Fields.{field, joined}
-use Rattle.laws.specs.Lists.{tab, blocks}
+use Rattle.laws.specs.Lists.{blocks}
 use Rattle.laws.proofs.Fields.{field-lt, field-joined, joined-field, joined-ext, joined-lt}
 use Rattle.laws.proofs.Lists.{length-tab, getD-tab, is-tab}
 use Rattle.kinds.specs.Kinds.{lanes}
-use Rattle.kinds.specs.Rule.{Laid, elementsOf, majors, minors, rowsOf, columnsOf, turn, major, minor, laneOf, elementOf, placeIn, holderIn, holderOf}
+use Rattle.kinds.specs.Rule.{Laid, elementsOf, majors, minors, rowsOf, columnsOf, turn, major, minor, placeIn, holderIn, holderOf}
 use Rattle.kinds.specs.declared.Layout.{Layout}
 use Rattle.kinds.proofs.Digits.{lane-back, element-back, major-back, minor-back, lane-lt, element-lt, major-lt, minor-lt}
 use Rattle.kinds.proofs.Answers.{turn-turn}

@@ -5,7 +5,7 @@ use mathlib.Core.List.{List}
 use Rattle.laws.specs.Choice.{if_then_else_, _=?_}
 use Rattle.kinds.specs.Refusals.{Answer, given, refusal}
 use Rattle.warp.specs.Buffers.{unpackedOf, packedOf}
-use Rattle.warp.specs.Answers.{wordsNeeded, entriesNeeded}
+use Rattle.warp.specs.Answers.{wordsNeeded}
 
 -- B of kind 3, row-major, row k column c at byte 8k + c: a record's bytes are that matrix.
 abbrev pub templateKind : ℕ

@@ -1,6 +1,6 @@
 -- The layout was given or refused; either way the holder's answer follows from it, by major and minor number. Assumes nothing.
 use borrow.Author.Needs.{needs}
-use mathlib.Core.Path.{_≡_, sym, ap, _∙_}
+use mathlib.Core.Path.{sym, ap, _∙_}
 use mathlib.Core.Bool.{Bool}
 use Rattle.kinds.specs.Rule.{turn}
 use Rattle.kinds.specs.Answers.{findBy}

@@ -1,7 +1,6 @@
 -- Each return rewrites the choice with the tests that led there. Assumes nothing.
 use borrow.Author.Needs.{needs}
 use borrow.Author.Tests.{le-leb, lt-leb}
-use native.Mathlib.Omega.{arith}
 use Rattle.kinds.specs.Rule.{majors, minors}
 use Rattle.kinds.specs.Answers.{findBy}
 use Rattle.kinds.proofs.find_in.Statement.{statement}

@@ -1,15 +1,10 @@
 -- Each return rewrites the chain with the tests that led there. Assumes nothing.
 use borrow.Author.Needs.{needs}
 use borrow.Author.Tests.{le-leb, lt-leb}
-use mathlib.Core.Path.{_≡_, sym, ap, subst, _∙_}
-use Prim.Native.Nat.{ℕ, _<_}
-use native.Mathlib.Omega.{arith}
-use Rattle.kinds.specs.Kinds.{roleOf}
-use Rattle.kinds.specs.Rule.{sideOf, layoutOf}
+use mathlib.Core.Path.{sym, ap, _∙_}
 use Rattle.kinds.specs.Refusals.{given}
 use Rattle.kinds.specs.Answers.{layoutAnswer}
-use Rattle.kinds.specs.declared.Entry.{Entry}
-use Rattle.kinds.proofs.Table.{Legal, bits-pos, side-pos}
+use Rattle.kinds.proofs.Table.{Legal}
 use Rattle.kinds.proofs.Judged.{judged-is}
 use Rattle.kinds.proofs.layout_of.Statement.{statement}
 use Rattle.kinds.proofs.layout_of.Tie as tie
@@ -31,20 +26,12 @@ returns-3 c =
 of-requires : tie.Need-of-requires
 of-requires c κs = search needs
 
-layout-in-requires : tie.Need-layout-in-requires
-layout-in-requires c κs =
-    let s = c .before .before .before .before in
-    let ok : Legal (s .args .kind .0) (s .args .role .0) = record { low = search needs; high = search needs; role = search needs } in
-    (subst (λ (e : Entry). 0 < e .3) (sym (c .of .ensures)) (bits-pos _ _ ok), subst (λ (e : Entry). 0 < sideOf (e .3)) (sym (c .of .ensures)) (side-pos _ _ ok), ok .role)
-
 returns-4 : tie.Need-returns-4
 unfolding layoutAnswer
 returns-4 c =
-    let s = c .before .before .before .before .before in
+    let s = c .before .before .before .before in
     let ok : Legal (s .args .kind .0) (s .args .role .0) = record { low = search needs; high = search needs; role = search needs } in
-    ap given (c .layout-in .ensures ∙ ap (λ (e : Entry). layoutOf e (roleOf (s .args .role .0))) (c .before .of .ensures))
-    ∙ sym (judged-is (s .args .kind .0) (s .args .role .0) _ ok)
+    ap given (c .of .ensures .0) ∙ sym (judged-is (s .args .kind .0) (s .args .role .0) _ ok)
 
 pub layout-of-spec : {M : Type 1} → statement M
-layout-of-spec =
-    tie.close (tie.spec returns returns-2 returns-3 of-requires layout-in-requires returns-4)
+layout-of-spec = tie.close (tie.spec returns returns-2 returns-3 of-requires returns-4)

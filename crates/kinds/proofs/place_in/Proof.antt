@@ -2,7 +2,6 @@
 use borrow.Author.Needs.{needs}
 use borrow.Author.Tests.{le-leb, lt-leb}
 use mathlib.Core.Bool.{true, false}
-use native.Mathlib.Omega.{arith}
 use Rattle.kinds.specs.Rule.{elementsOf}
 use Rattle.kinds.specs.Answers.{placeBy}
 use Rattle.kinds.proofs.Answers.{placed}

@@ -1,10 +1,9 @@
 -- A row and a column are a major and a minor number, in B the other way round. Assumes nothing.
-use borrow.Author.Needs.{needs}
 use mathlib.Core.Path.{_≡_, sym, ap, subst, _∙_}
 use mathlib.Core.Bool.{Bool, true, false}
-use Prim.Native.Nat.{ℕ, _*_, _<_}
+use Prim.Native.Nat.{_*_, _<_}
 use denote.Ref.{now}
-use Rattle.kinds.specs.Rule.{shape, turn, majors, minors}
+use Rattle.kinds.specs.Rule.{shape, turn}
 use Rattle.warp.specs.Buffers.{entryAt}
 use Rattle.warp.proofs.Elements.{turned-in}
 use Rattle.warp.proofs.entry.Statement.{statement}

@@ -1,6 +1,6 @@
 -- The holder's element lies within its lane's words. Assumes nothing.
 use borrow.Author.Needs.{needs}
-use mathlib.Core.Path.{_≡_, sym, ap₂, subst, _∙_}
+use mathlib.Core.Path.{sym, ap₂, subst, _∙_}
 use Prim.Native.Nat.{ℕ, _+_, _*_, _≤_}
 use denote.Ref.{now}
 use Rattle.warp.specs.Buffers.{elementAt}

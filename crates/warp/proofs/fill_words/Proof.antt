@@ -1,14 +1,13 @@
 -- Each turn lends one lane's part to its writer, and puts it back filled: one block more. Assumes nothing.
-use borrow.Author.Needs.{needs}
 use borrow.Rule.Slice.PartMut.{mid-len}
 use mathlib.Core.Path.{_≡_, refl, sym, ap, ap₂, _∙_}
 use mathlib.Core.List.{List, _++_}
-use Prim.Native.Nat.{ℕ, _+_, _-_, _*_, _<_, _≤_}
+use Prim.Native.Nat.{ℕ, _+_, _-_, _*_, _≤_}
 use native.Mathlib.Nat.{zero-mul, zero-add}
 use native.Mathlib.Omega.{arith}
 use denote.Ref.{now}
 use lib.ListN.{length, take, drop}
-use Rattle.laws.specs.Lists.{tab, fills, blocks}
+use Rattle.laws.specs.Lists.{fills, blocks}
 use Rattle.laws.proofs.Lists.{fills-part, fills-block, fills-all, length-fills, block-le}
 use Rattle.kinds.specs.Rule.{shape}
 use Rattle.warp.specs.Buffers.{wordAt, packed}

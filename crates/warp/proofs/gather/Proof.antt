@@ -1,11 +1,10 @@
 -- After j turns the sum is the number joined of the first j entries; it stays below 2 ^ 32. Assumes nothing.
-use borrow.Author.Needs.{needs}
 use mathlib.Core.Path.{_≡_, refl, sym, ap, ap₂, subst, _∙_}
 use Prim.Native.Nat.{ℕ, _+_, _-_, _*_, _%_, _^_, _<_, _≤_}
 use native.Mathlib.Nat.{mul-le-mul, mul-le-mul-left, lt-of-lt-of-le, le-trans, mul-suc}
 use native.Mathlib.Omega.{arith}
 use denote.Ref.{now}
-use lib.ListN.{length, getD}
+use lib.ListN.{getD}
 use lib.Pow.{shl-exact, pow-mono}
 use Rattle.laws.specs.Fields.{joined}
 use Rattle.laws.proofs.Fields.{joined-more, joined-lt}

@@ -1,6 +1,6 @@
 -- The two branches are the two ways round. Assumes nothing.
 use borrow.Author.Needs.{needs}
-use mathlib.Core.Path.{_≡_, sym, ap}
+use mathlib.Core.Path.{sym, ap}
 use mathlib.Core.Bool.{Bool}
 use native.Mathlib.Omega.{arith}
 use Rattle.kinds.specs.Rule.{turn, majors, minors}

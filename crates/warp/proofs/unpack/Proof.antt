@@ -1,6 +1,6 @@
 -- The layout was given or refused; either way the answer and the matrix follow from it. Assumes nothing.
 use borrow.Author.Needs.{needs}
-use mathlib.Core.Path.{_≡_, refl, ap, _∙_}
+use mathlib.Core.Path.{refl, ap, _∙_}
 use denote.Ref.{now}
 use lib.ListN.{length}
 use Rattle.kinds.specs.Refusals.{told, after}

@@ -2,11 +2,11 @@
 use borrow.Author.Needs.{needs}
 use mathlib.Core.Path.{_≡_, refl, ap, ap₂, _∙_}
 use mathlib.Core.List.{List}
-use Prim.Native.Nat.{ℕ, _+_, _-_, _<_, _≤_}
+use Prim.Native.Nat.{ℕ, _+_, _-_, _≤_}
 use native.Mathlib.Omega.{arith}
 use denote.Ref.{now}
 use lib.ListN.{length, set}
-use Rattle.laws.specs.Lists.{tab, fills}
+use Rattle.laws.specs.Lists.{fills}
 use Rattle.laws.proofs.Lists.{fills-front, fills-all, length-fills}
 use Rattle.kinds.specs.Rule.{shape}
 use Rattle.warp.specs.Buffers.{wordAt}

@@ -1,0 +1,30 @@
+-- The line of the table, spread by the role; every line has what a layout must have. Assumes nothing.
+use borrow.Author.Needs.{needs}
+use mathlib.Core.Path.{sym, ap, subst, _∙_}
+use Prim.Native.Nat.{_<_}
+use Rattle.kinds.specs.Kinds.{roleOf}
+use Rattle.kinds.specs.Rule.{sideOf, layoutOf, Laid}
+use Rattle.kinds.specs.declared.Entry.{Entry}
+use Rattle.kinds.proofs.Table.{Legal, bits-pos, side-pos, sane}
+use Rattle.kinds.proofs.Layout.of.Statement.{statement}
+use Rattle.kinds.proofs.Layout.of.Tie as tie
+
+legal : (s : tie.Start) → Legal (s .args .kind .0) (s .args .role .0)
+legal s = record { low = s .pre .0; high = s .pre .1; role = s .pre .2 }
+
+of-requires : tie.Need-of-requires
+of-requires c κs = search needs
+
+layout-in-requires : tie.Need-layout-in-requires
+layout-in-requires c κs =
+    let s = c .before in
+    (subst (λ (e : Entry). 0 < e .3) (sym (c .of .ensures)) (bits-pos _ _ (legal s)), subst (λ (e : Entry). 0 < sideOf (e .3)) (sym (c .of .ensures)) (side-pos _ _ (legal s)), s .pre .2)
+
+returns : tie.Need-returns
+returns c =
+    let s = c .before .before in
+    let e = c .layout-in .ensures ∙ ap (λ (e : Entry). layoutOf e (roleOf (s .args .role .0))) (c .before .of .ensures) in
+    (e, subst Laid (sym e) (sane _ _ (legal s)))
+
+pub of-spec : {M : Type 1} → statement M
+of-spec = tie.close (tie.spec of-requires layout-in-requires returns)
