@@ -1,0 +1,227 @@
+// Scale bytes: the choice of bytes by the selectors, and their reading as exponents.
+ghost use mathlib.Core.Path.{_≡_};
+ghost use mathlib.Core.Bool.{true};
+ghost use Prim.Native.Nat.{_<_};
+ghost use lib.ListN.{length, getD};
+ghost use Rattle.kinds.specs.Kinds.{lanes};
+ghost use Rattle.kinds.specs.Refusals.{told, after};
+ghost use Rattle.scale.specs.Bytes.{legalSize, legalSide, legalByteId, legalThreadId, chosenLanes, byteOf, chosenBytes, exponent, scaled, outputLength};
+ghost use Rattle.scale.specs.Answers.{scaleAnswer};
+ghost use Rattle.scale.specs.Legal.{Legal};
+use kinds::Lane;
+use kinds::Refusal;
+use kinds::Verdict;
+
+// Each selector has its own type, so that none stands in for another. Any u32 may stand in it: what is illegal is refused.
+pub struct Size(pub u32);
+
+pub struct Side(pub u32);
+
+pub struct ByteId(pub u32);
+
+pub struct ThreadId(pub u32);
+
+impl Size {
+    fn legal(self) -> bool
+        ensures { λ r. ⌜ r ≡ legalSize (self .0) ⌝ }
+    {
+        let s = self.0;
+        if s == 1 {
+            return true;
+        }
+        if s == 2 {
+            return true;
+        }
+        s == 4
+    }
+}
+
+impl Side {
+    pub const A: u32 = 0;
+
+    pub const B: u32 = 1;
+
+    fn legal(self) -> bool
+        ensures { λ r. ⌜ r ≡ legalSide (self .0) ⌝ }
+    {
+        let s = self.0;
+        if s == Side::A {
+            return true;
+        }
+        s == Side::B
+    }
+}
+
+impl ByteId {
+    fn legal(self, size: Size) -> bool
+        ensures { λ r. ⌜ r ≡ legalByteId (size .0) (self .0) ⌝ }
+    {
+        let s = size.0;
+        let b = self.0;
+        if s == 1 {
+            return b <= 3;
+        }
+        if s == 2 {
+            if b == 0 {
+                return true;
+            }
+            return b == 2;
+        }
+        if s == 4 {
+            return b == 0;
+        }
+        false
+    }
+}
+
+impl ThreadId {
+    fn legal(self, side: Side) -> bool
+        ensures { λ r. ⌜ r ≡ legalThreadId (side .0) (self .0) ⌝ }
+    {
+        let s = side.0;
+        let t = self.0;
+        if s == Side::A {
+            return t <= 1;
+        }
+        if s == Side::B {
+            return t <= 3;
+        }
+        false
+    }
+}
+
+// The numbers that the output needs: sixteen lanes give theirs on side A, eight on side B.
+fn output_length(size: Size, side: Side) -> usize
+    ensures { λ r. ⌜ r ≡ outputLength (size .0) (side .0) ⌝ }
+{
+    let n = size.0 as usize;
+    let s = side.0;
+    if s == Side::A {
+        return 16 * n;
+    }
+    8 * n
+}
+
+// The verdict, by the selectors and the lengths of the two buffers.
+fn judge(
+    size: Size,
+    side: Side,
+    byte_id: ByteId,
+    thread_id: ThreadId,
+    words: usize,
+    numbers: usize,
+) -> Verdict
+    ensures { λ r. ⌜ told r ≡ scaleAnswer (size .0) (side .0) («byte_id» .0) («thread_id» .0) words numbers ⌝ }
+{
+    if !size.legal() {
+        return Verdict::Refused(Refusal::BadScale(0));
+    }
+    if !side.legal() {
+        return Verdict::Refused(Refusal::BadScale(1));
+    }
+    if !byte_id.legal(size) {
+        return Verdict::Refused(Refusal::BadScale(2));
+    }
+    if !thread_id.legal(side) {
+        return Verdict::Refused(Refusal::BadScale(3));
+    }
+    if words != Lane::COUNT {
+        return Verdict::Refused(Refusal::WrongLength(0));
+    }
+    if numbers != output_length(size, side) {
+        return Verdict::Refused(Refusal::WrongLength(1));
+    }
+    Verdict::Accepted
+}
+
+// The chosen lane number k, lanes ascending: of each quad, two lanes on side A, from twice the thread-id on, and one on side B, the thread-id.
+fn lane_at(side: Side, thread_id: ThreadId, k: u32) -> Lane
+    requires { ⌜ legalThreadId (side .0) («thread_id» .0) ≡ true ⌝ }
+    requires { ⌜ k < outputLength 1 (side .0) ⌝ }
+    ensures { λ r. ⌜ (r .0 ≡ getD (chosenLanes (side .0) («thread_id» .0)) k 0) × (r .0 < lanes) ⌝ }
+{
+    let s = side.0;
+    let t = thread_id.0;
+    if s == Side::A {
+        return Lane(k / 2 * 4 + (2 * t + k % 2));
+    }
+    Lane(k * 4 + t)
+}
+
+// Byte b of a word, the low byte being byte 0.
+fn byte_of(word: u32, b: u32) -> u8
+    requires { ⌜ b < 4 ⌝ }
+    ensures { λ r. ⌜ r ≡ byteOf word b ⌝ }
+{
+    ((word >> (8 * b)) % 256) as u8
+}
+
+// The chosen byte number x: lanes ascending, and in a lane the low byte first.
+fn chosen_byte(
+    size: Size,
+    side: Side,
+    byte_id: ByteId,
+    thread_id: ThreadId,
+    metadata: &[u32],
+    x: u32,
+) -> u8
+    requires { ⌜ Legal (size .0) (side .0) («byte_id» .0) («thread_id» .0) (length (now metadata)) ⌝ }
+    requires { ⌜ x < outputLength (size .0) (side .0) ⌝ }
+    ensures { λ r. ⌜ r ≡ getD (chosenBytes (size .0) (side .0) («byte_id» .0) («thread_id» .0) (now (metadata .entry))) x 0 ⌝ }
+{
+    let n = size.0;
+    let b = byte_id.0;
+    let lane = lane_at(side, thread_id, x / n);
+    let at = lane.0 as usize;
+    byte_of(metadata[at], b + x % n)
+}
+
+// A byte as a signed exponent.
+fn exponent_of(b: u8) -> i32
+    ensures { λ r. ⌜ r ≡ exponent b ⌝ }
+{
+    b as i32 - 127
+}
+
+// The whole output, number by number.
+fn fill(
+    size: Size,
+    side: Side,
+    byte_id: ByteId,
+    thread_id: ThreadId,
+    metadata: &[u32],
+    out: &mut [i32],
+)
+    requires { ⌜ Legal (size .0) (side .0) («byte_id» .0) («thread_id» .0) (length (now metadata)) ⌝ }
+    requires { ⌜ length (now out) ≡ outputLength (size .0) (side .0) ⌝ }
+    ensures { λ _. ⌜ now (out .exit) ≡ scaled (size .0) (side .0) («byte_id» .0) («thread_id» .0) (now (metadata .entry)) ⌝ }
+{
+    let mut x = 0;
+    while x < out.len() {
+        let b = chosen_byte(size, side, byte_id, thread_id, metadata, x as u32);
+        out[x] = exponent_of(b);
+        x += 1;
+    }
+}
+
+// The exponents of the chosen bytes, lanes ascending, low byte first.
+pub fn scale(
+    size: Size,
+    side: Side,
+    byte_id: ByteId,
+    thread_id: ThreadId,
+    metadata: &[u32],
+    out: &mut [i32],
+) -> Verdict
+    ensures { λ r. ⌜ told r ≡ scaleAnswer (size .0) (side .0) («byte_id» .0) («thread_id» .0) (length (now (metadata .entry))) (length (now (out .entry))) ⌝ }
+    ensures { λ r. ⌜ now (out .exit) ≡ after (told r) (scaled (size .0) (side .0) («byte_id» .0) («thread_id» .0) (now (metadata .entry))) (now (out .entry)) ⌝ }
+{
+    let verdict = judge(size, side, byte_id, thread_id, metadata.len(), out.len());
+    match verdict {
+        Verdict::Accepted => {
+            fill(size, side, byte_id, thread_id, metadata, out);
+            verdict
+        }
+        Verdict::Refused(_) => verdict,
+    }
+}
