@@ -41,17 +41,16 @@ judged-given k r rest x e =
     let b = passed (noRole r) 2 0 rest (a .1) in
     (legal k r (a .0) (b .0), b .1)
 
-carried : {X Y : Type 0} (a b : Bool) (x : X) (rest : Answer Y) (n d : ℕ)
-    → refusal n d ≡ (if a then refusal 1 0 else if b then refusal 2 0 else given x) → refusal n d ≡ (if a then refusal 1 0 else if b then refusal 2 0 else rest)
-carried true b x rest n d e =
-    let p : n ≡ 1 = cc in
-    let q : d ≡ 0 = cc in
-    rw (p, q) refl
-carried false true x rest n d e =
-    let p : n ≡ 2 = cc in
-    let q : d ≡ 0 = cc in
-    rw (p, q) refl
-carried false false x rest n d e = absurd (never e)
+-- a refusal that a link gave in one chain it gives in another
+pub carried : {X Y : Type 0} (t : Bool) (n m d c : ℕ) (p : Answer X) (q : Answer Y) → (refusal n d ≡ p → refusal n d ≡ q)
+    → refusal n d ≡ (if t then refusal m c else p) → refusal n d ≡ (if t then refusal m c else q)
+carried true n m d c p q h e =
+    let a : n ≡ m = cc in
+    let b : d ≡ c = cc in
+    rw (a, b) refl
+carried false n m d c p q h e = h e
 
 pub judged-refused : {X Y : Type 0} (k r : ℕ) (x : X) (rest : Answer Y) (n d : ℕ) → refusal n d ≡ judged k r (given x) → refusal n d ≡ judged k r rest
-judged-refused k r x rest n d e = carried (noKind k) (noRole r) x rest n d e
+judged-refused k r x rest n d e =
+    carried (noKind k) n 1 d 0 (if noRole r then refusal 2 0 else given x) (if noRole r then refusal 2 0 else rest)
+    (carried (noRole r) n 2 d 0 (given x) rest (λ z. absurd (never z))) e

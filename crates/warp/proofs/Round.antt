@@ -63,7 +63,7 @@ module _ (f : Layout) (ok : Laid f) where
         ap₂ (λ (a b : ℕ). turn (f .turned) (a, b)) (major-back p h (ok .side-pos) (ok .halves-pos) x y (inside .0)) (minor-back p h (ok .side-pos) (ok .halves-pos) x y (inside .0))
         ∙ turn-turn (f .turned) (row, column)
 
-  column-in : (lane i : ℕ) → lane < lanes → i < elementsOf f → placeIn f lane i .1 < columnsOf f
+  pub column-in : (lane i : ℕ) → lane < lanes → i < elementsOf f → placeIn f lane i .1 < columnsOf f
   column-in lane i hl hi =
       turned-out (f .turned) (majors f) (minors f) (major p h lane i) (minor p h lane i)
       (major-lt p h (ok .side-pos) (ok .halves-pos) lane i hl) (minor-lt p h (ok .side-pos) (ok .halves-pos) (f .spans) lane i hi)

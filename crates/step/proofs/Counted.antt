@@ -1,0 +1,48 @@
+-- The ones counted word by word are the ones among the combined bits of A's row and B's column. Assumes nothing.
+use mathlib.Core.Path.{_≡_, refl, sym, ap, ap₂, _∙_}
+use mathlib.Core.List.{List}
+use Prim.Native.Nat.{ℕ, _*_, _/_, _%_, _^_, _<_, _≤_}
+use native.Mathlib.Omega.{arith}
+use lib.IntN.{pos}
+use lib.ListN.{getD}
+use Rattle.laws.specs.Bits.{combine, onesIn}
+use Rattle.laws.specs.Lists.{tab, blocks}
+use Rattle.laws.proofs.Lists.{tab-ext}
+use Rattle.kinds.specs.Kinds.{lanes}
+use Rattle.kinds.specs.Rule.{laneOf, elementOf, major, minor}
+use Rattle.kinds.specs.declared.Layout.{Layout}
+use Rattle.kinds.proofs.Digits.{major-lt, minor-lt}
+use Rattle.kinds.proofs.Table.{layoutAt}
+use Rattle.warp.specs.Buffers.{elementAt}
+use Rattle.step.specs.Step.{entryIn, combinedBits, added, cellOf, resultAt, stepped}
+use Rattle.step.specs.Sums.{bitsOf, onesWord}
+use Rattle.step.proofs.Matrices.{entry-A, entry-B, entry-C, stepped-is}
+
+module _ (mode : ℕ) (a b c : List ℕ) (fit : (x : ℕ) → getD c x 0 < 2 ^ 32) where
+  bits-are : (row column : ℕ) → row < 8 → column < 8 → bitsOf mode 128 1 1 1 a b row column ≡ combinedBits 1 mode a b row column
+  unfolding bitsOf combinedBits
+  bits-are row column hr hc =
+      tab-ext 128 (λ k. combine mode (elementAt 1 1 a (laneOf 32 row k) (elementOf 32 1 row k)) (elementAt 1 1 b (laneOf 32 column k) (elementOf 32 1 column k)))
+      (λ k. combine mode (entryIn 1 0 a row k) (entryIn 1 1 b k column))
+      (λ k h. ap₂ (combine mode) (sym (entry-A 1 (omega arith) (omega arith) a row k hr h)) (sym (entry-B 1 (omega arith) (omega arith) b k column h hc)))
+
+  word-is : (lane i : ℕ) → lane < lanes → i < 2 → onesWord mode 128 1 1 1 2 a b c lane i ≡ resultAt 1 0 mode a b c (major 2 1 lane i) (minor 2 1 lane i)
+  unfolding onesWord resultAt added
+  word-is lane i hl hi =
+      ap₂ (λ (w n : ℕ). cellOf 0 w (pos n)) (sym (entry-C 1 (omega arith) (omega arith) lane i hl hi c fit))
+      (ap onesIn (bits-are (major 2 1 lane i) (minor 2 1 lane i) (major-lt 2 1 (omega arith) (omega arith) lane i hl) (minor-lt 2 1 (omega arith) (omega arith) 1 lane i (omega arith))))
+
+  words-are : tab (32 * 2) (blocks 2 (onesWord mode 128 1 1 1 2 a b c)) ≡ stepped 1 0 mode a b c
+  words-are =
+      tab-ext 64 (blocks 2 (onesWord mode 128 1 1 1 2 a b c)) (blocks 2 (λ lane i. resultAt 1 0 mode a b c (major 2 1 lane i) (minor 2 1 lane i)))
+      (λ x h. word-is (x / 2) (x % 2) (omega arith) (omega arith))
+      ∙ sym (stepped-is 1 (omega arith) (omega arith) 0 mode a b c)
+
+-- the same by the layouts that the code has
+module _ (k : ℕ) (one : k ≡ 1) (f g h : Layout) (ef : f ≡ layoutAt k 0) (eg : g ≡ layoutAt k 1) (eh : h ≡ layoutAt k 2) where
+  pub numbers : (0 < f .halves) × (f .halves ≤ 2) × (g .words ≤ 2) × (f .words ≡ g .words * f .halves) × (h .words ≡ 2 * f .halves)
+  numbers = rw (ef, eg, eh, one) (omega arith, omega arith, omega arith, refl, refl)
+
+  pub counted : (mode : ℕ) (a b c : List ℕ) → ((x : ℕ) → getD c x 0 < 2 ^ 32)
+      → tab (lanes * h .words) (blocks (h .words) (onesWord mode (128 * g .words) (f .words) (f .halves) (g .words) (h .words) a b c)) ≡ stepped k 0 mode a b c
+  counted mode a b c fit = rw (ef, eg, eh, one) (words-are mode a b c fit)

@@ -1,0 +1,33 @@
+-- One kind counts bits, which it takes with signs 0; the others multiply. Assumes nothing.
+use borrow.Author.Needs.{needs}
+use mathlib.Core.Path.{sym, ap, _∙_}
+use Prim.Native.Nat.{ℕ}
+use denote.Ref.{now}
+use Rattle.step.specs.Step.{stepped}
+use Rattle.step.proofs.work.Statement.{statement}
+use Rattle.step.proofs.work.Tie as tie
+
+count-requires : tie.Need-count-requires
+count-requires c κs = search needs
+
+same-length : tie.Need-same-length
+same-length c = search needs
+
+returns : tie.Need-returns
+returns c =
+    let s = c .before .before .before .before .before .before .before .before .before in
+    c .before .before .count .ensures
+    ∙ ap (λ (signs : ℕ). stepped (s .args .kind .0) signs (s .args .mode .0) (now (s .args .a)) (now (s .args .b)) (now (s .args .c))) (sym (s .pre .0 .plain (c .before .before .before .before .if1 .taken)))
+
+multiply-requires : tie.Need-multiply-requires
+multiply-requires c κs = search needs
+
+same-length-2 : tie.Need-same-length-2
+same-length-2 c = search needs
+
+returns-2 : tie.Need-returns-2
+returns-2 c = search needs
+
+pub work-spec : {M : Type 1} → statement M
+work-spec =
+    tie.close (tie.spec count-requires same-length returns multiply-requires same-length-2 returns-2)

@@ -1,0 +1,66 @@
+-- Document 01, 'One step'. Assumes nothing.
+use Prim.Native.Nat.{ℕ, _*_, _-_, _^_}
+use mathlib.Core.Bool.{Bool, _||_}
+use mathlib.Core.List.{List}
+use lib.ListN.{getD}
+use lib.IntN.{ℤ, pos, _+ℤ_, _*ℤ_}
+use Rattle.laws.specs.Choice.{if_then_else_, _=?_}
+use Rattle.laws.specs.Bits.{combine, onesIn}
+use Rattle.laws.specs.Integers.{value, sumZ, int32, word32, clamp}
+use Rattle.laws.specs.Lists.{tab, blocks}
+use Rattle.kinds.specs.Kinds.{entryOf, roleOf, rows, columns}
+use Rattle.warp.specs.Buffers.{index, unpackedOf, packedOf}
+
+-- A, B, C and D in steps are warp buffers: the entry of a buffer's matrix at a row and a column.
+unfoldable pub entryIn : (kind role : ℕ) → List ℕ → (row column : ℕ) → ℕ
+entryIn kind role ws row column = getD (unpackedOf kind role ws) (index (columns (entryOf kind) (roleOf role)) (row, column)) 0
+
+-- K, and what the sign bit of an A or B element weighs
+abbrev pub depth : (kind : ℕ) → ℕ
+depth kind = entryOf kind .2
+
+abbrev pub half : (kind : ℕ) → ℕ
+half kind = 2 ^ (entryOf kind .3 - 1)
+
+-- The sign selector: 0 both signed (two's complement), 1 A unsigned, 2 B unsigned, 3 both unsigned.
+abbrev pub unsignedA : (signs : ℕ) → Bool
+unsignedA signs = signs =? 1 || signs =? 3
+
+abbrev pub unsignedB : (signs : ℕ) → Bool
+unsignedB signs = signs =? 2 || signs =? 3
+
+-- the sum over k of A(r, k) times B(k, c)
+unfoldable pub products : (kind signs : ℕ) → (a b : List ℕ) → (row column : ℕ) → ℤ
+products kind signs a b row column =
+    sumZ (depth kind) (λ k. value (unsignedA signs) (half kind) (entryIn kind 0 a row k) *ℤ value (unsignedB signs) (half kind) (entryIn kind 1 b k column))
+
+-- In kind 1 mode 0 is xor, mode 1 is and: the K combined bits, of which the ones are counted.
+abbrev pub oneBit : (kind : ℕ) → Bool
+oneBit kind = kind =? 1
+
+unfoldable pub combinedBits : (kind mode : ℕ) → (a b : List ℕ) → (row column : ℕ) → List ℕ
+combinedBits kind mode a b row column = tab (depth kind) (λ k. combine mode (entryIn kind 0 a row k) (entryIn kind 1 b k column))
+
+-- what a block adds at a place
+unfoldable pub added : (kind signs mode : ℕ) → (a b : List ℕ) → (row column : ℕ) → ℤ
+added kind signs mode a b row column =
+    if oneBit kind then pos (onesIn (combinedBits kind mode a b row column)) else products kind signs a b row column
+
+-- Mode 0 wraps the exact result to 32 bits, mode 1 clamps it once, at the end; the one-bit form wraps. C and D are signed.
+abbrev pub limit : (kind mode : ℕ) → ℕ
+limit kind mode = if oneBit kind then 0 else mode
+
+unfoldable pub cellOf : (mode c : ℕ) → ℤ → ℕ
+cellOf mode c exact = word32 (if mode =? 0 then int32 c +ℤ exact else clamp (int32 c +ℤ exact))
+
+-- D at (r, c) is C at (r, c) plus what the block adds there.
+unfoldable pub resultAt : (kind signs mode : ℕ) → (a b c : List ℕ) → (row column : ℕ) → ℕ
+resultAt kind signs mode a b c row column = cellOf (limit kind mode) (entryIn kind 2 c row column) (added kind signs mode a b row column)
+
+unfoldable pub results : (kind signs mode : ℕ) → (a b c : List ℕ) → List ℕ
+results kind signs mode a b c =
+    tab (rows (entryOf kind) (roleOf 2) * columns (entryOf kind) (roleOf 2)) (blocks (columns (entryOf kind) (roleOf 2)) (resultAt kind signs mode a b c))
+
+-- the words of D
+unfoldable pub stepped : (kind signs mode : ℕ) → (a b c : List ℕ) → List ℕ
+stepped kind signs mode a b c = packedOf kind 2 (results kind signs mode a b c)

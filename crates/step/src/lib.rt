@@ -1,0 +1,222 @@
+// One multiply step on warp buffers: D is C plus A times B, kinds 1 to 5.
+ghost use mathlib.Core.Path.{_≡_};
+ghost use Prim.Native.Nat.{_-_, _^_, _<_, _≤_};
+ghost use lib.ListN.{length};
+ghost use Rattle.kinds.specs.Kinds.{kinds};
+ghost use Rattle.kinds.specs.Refusals.{told, after, given};
+ghost use Rattle.warp.specs.Answers.{wordsNeeded};
+ghost use Rattle.step.specs.Step.{unsignedA, unsignedB, stepped};
+ghost use Rattle.step.specs.Answers.{selected, fourBuffers, stepAnswer, plainAnswer, Ready, Sized};
+ghost use Rattle.step.specs.Sums.{offsetOf};
+
+mod ones;
+mod sums;
+
+use kinds::Kind;
+use kinds::Lane;
+use kinds::Layout;
+use kinds::Refusal;
+use kinds::Role;
+use kinds::Verdict;
+
+pub struct Signs(pub u32);
+
+pub struct Mode(pub u32);
+
+// Refusals 1, 3 and 4, with which a step and the opening of a run begin.
+pub fn judge(kind: Kind, signs: Signs, mode: Mode) -> Verdict
+    ensures { λ r. ⌜ told r ≡ selected (kind .0) (signs .0) (mode .0) (given tt) ⌝ }
+{
+    let k = kind.0;
+    let s = signs.0;
+    let m = mode.0;
+    if k < 1 {
+        return Verdict::Refused(Refusal::UnknownKind);
+    }
+    if Kind::COUNT < k {
+        return Verdict::Refused(Refusal::UnknownKind);
+    }
+    if 5 < k {
+        return Verdict::Refused(Refusal::NotArithmetic);
+    }
+    if 3 < s {
+        return Verdict::Refused(Refusal::BadSelectors);
+    }
+    if 1 < m {
+        return Verdict::Refused(Refusal::BadSelectors);
+    }
+    if k == 1 {
+        if s != 0 {
+            return Verdict::Refused(Refusal::BadSelectors);
+        }
+    }
+    Verdict::Accepted
+}
+
+fn unsigned_a(signs: u32) -> bool
+    ensures { λ r. ⌜ r ≡ unsignedA signs ⌝ }
+{
+    if signs == 1 {
+        return true;
+    }
+    signs == 3
+}
+
+fn unsigned_b(signs: u32) -> bool
+    ensures { λ r. ⌜ r ≡ unsignedB signs ⌝ }
+{
+    if signs == 2 {
+        return true;
+    }
+    signs == 3
+}
+
+// How far a side's digits stand too high: by the weight of the sign bit, where they are signed.
+fn offset(unsigned: bool, bits: usize) -> u64
+    requires { ⌜ (0 < bits) × (bits ≤ 8) ⌝ }
+    ensures { λ r. ⌜ (r ≡ offsetOf unsigned (2 ^ (bits - 1))) × (r ≤ 128) ⌝ }
+{
+    if unsigned {
+        return 0;
+    }
+    1 << (bits - 1)
+}
+
+// The integer kinds: A by rows and B by columns are unpacked once, into digits.
+fn multiply(kind: Kind, signs: Signs, mode: Mode, a: &[u32], b: &[u32], c: &[u32], d: &mut [u32])
+    requires { ⌜ Ready (kind .0) (signs .0) (mode .0) × (2 ≤ kind .0) ⌝ }
+    requires { ⌜ Sized (kind .0) (length (now a)) (length (now b)) (length (now c)) (length (now d)) ⌝ }
+    ensures { λ _. ⌜ now (d .exit) ≡ stepped (kind .0) (signs .0) (mode .0) (now (a .entry)) (now (b .entry)) (now (c .entry)) ⌝ }
+{
+    let f = Layout::of(kind, Role(Role::A));
+    let g = Layout::of(kind, Role(Role::B));
+    let h = Layout::of(kind, Role(Role::C));
+    let bits = f.bits;
+    let n = f.spans * 4 * f.side;
+    let ha = offset(unsigned_a(signs.0), bits);
+    let hb = offset(unsigned_b(signs.0), bits);
+    let mut x: [u8; 1024] = [0; 1024];
+    let mut y: [u8; 1024] = [0; 1024];
+    sums::digits_by_width(a, &mut x, bits, f.words, f.side, f.halves, f.spans, ha, n);
+    sums::digits_by_width(b, &mut y, bits, g.words, g.side, g.halves, g.spans, hb, n);
+    sums::cells(
+        mode.0,
+        &x,
+        &y,
+        n,
+        ha as u32,
+        hb as u32,
+        h.words,
+        h.halves,
+        c,
+        d,
+    );
+}
+
+// The one-bit kind.
+fn count(kind: Kind, mode: Mode, a: &[u32], b: &[u32], c: &[u32], d: &mut [u32])
+    requires { ⌜ (kind .0 ≡ 1) × (mode .0 ≤ 1) ⌝ }
+    requires { ⌜ Sized (kind .0) (length (now a)) (length (now b)) (length (now c)) (length (now d)) ⌝ }
+    ensures { λ _. ⌜ now (d .exit) ≡ stepped (kind .0) 0 (mode .0) (now (a .entry)) (now (b .entry)) (now (c .entry)) ⌝ }
+{
+    let f = Layout::of(kind, Role(Role::A));
+    let g = Layout::of(kind, Role(Role::B));
+    let h = Layout::of(kind, Role(Role::C));
+    ones::cells(mode.0, f.words, f.halves, g.words, h.words, a, b, c, d);
+}
+
+// The words of D, for numbers and lengths that were judged: the worker of a step and of a run's feed.
+pub fn work(kind: Kind, signs: Signs, mode: Mode, a: &[u32], b: &[u32], c: &[u32], d: &mut [u32])
+    requires { ⌜ Ready (kind .0) (signs .0) (mode .0) ⌝ }
+    requires { ⌜ Sized (kind .0) (length (now a)) (length (now b)) (length (now c)) (length (now d)) ⌝ }
+    ensures { λ _. ⌜ now (d .exit) ≡ stepped (kind .0) (signs .0) (mode .0) (now (a .entry)) (now (b .entry)) (now (c .entry)) ⌝ }
+{
+    let k = kind.0;
+    if k == 1 {
+        count(kind, mode, a, b, c, d);
+        return;
+    }
+    multiply(kind, signs, mode, a, b, c, d);
+}
+
+// The words that a warp buffer of a legal kind and role needs.
+pub fn needed(kind: Kind, role: Role) -> usize
+    requires { ⌜ (1 ≤ kind .0) × (kind .0 ≤ kinds) × (role .0 ≤ 2) ⌝ }
+    ensures { λ r. ⌜ r ≡ wordsNeeded (kind .0) (role .0) ⌝ }
+{
+    let f = Layout::of(kind, role);
+    Lane::COUNT * f.words
+}
+
+// Refusal 5, by the lengths of A, B, C and D.
+fn lengths(kind: Kind, a: usize, b: usize, c: usize, d: usize) -> Verdict
+    requires { ⌜ (1 ≤ kind .0) × (kind .0 ≤ kinds) ⌝ }
+    ensures { λ r. ⌜ told r ≡ fourBuffers (kind .0) a b c d ⌝ }
+{
+    if a != needed(kind, Role(Role::A)) {
+        return Verdict::Refused(Refusal::WrongLength(0));
+    }
+    if b != needed(kind, Role(Role::B)) {
+        return Verdict::Refused(Refusal::WrongLength(1));
+    }
+    let n = needed(kind, Role(Role::C));
+    if c != n {
+        return Verdict::Refused(Refusal::WrongLength(2));
+    }
+    if d != n {
+        return Verdict::Refused(Refusal::WrongLength(3));
+    }
+    Verdict::Accepted
+}
+
+// A step whose selectors were judged.
+fn step_in(
+    kind: Kind,
+    signs: Signs,
+    mode: Mode,
+    a: &[u32],
+    b: &[u32],
+    c: &[u32],
+    d: &mut [u32],
+) -> Verdict
+    requires { ⌜ Ready (kind .0) (signs .0) (mode .0) ⌝ }
+    ensures { λ r. ⌜ told r ≡ fourBuffers (kind .0) (length (now (a .entry))) (length (now (b .entry))) (length (now (c .entry))) (length (now (d .entry))) ⌝ }
+    ensures { λ r. ⌜ now (d .exit) ≡ after (told r) (stepped (kind .0) (signs .0) (mode .0) (now (a .entry)) (now (b .entry)) (now (c .entry))) (now (d .entry)) ⌝ }
+{
+    let verdict = lengths(kind, a.len(), b.len(), c.len(), d.len());
+    match verdict {
+        Verdict::Accepted => {
+            work(kind, signs, mode, a, b, c, d);
+            verdict
+        }
+        Verdict::Refused(_) => verdict,
+    }
+}
+
+// One step, with selectors.
+pub fn step(
+    kind: Kind,
+    signs: Signs,
+    mode: Mode,
+    a: &[u32],
+    b: &[u32],
+    c: &[u32],
+    d: &mut [u32],
+) -> Verdict
+    ensures { λ r. ⌜ told r ≡ stepAnswer (kind .0) (signs .0) (mode .0) (length (now (a .entry))) (length (now (b .entry))) (length (now (c .entry))) (length (now (d .entry))) ⌝ }
+    ensures { λ r. ⌜ now (d .exit) ≡ after (told r) (stepped (kind .0) (signs .0) (mode .0) (now (a .entry)) (now (b .entry)) (now (c .entry))) (now (d .entry)) ⌝ }
+{
+    let verdict = judge(kind, signs, mode);
+    match verdict {
+        Verdict::Accepted => step_in(kind, signs, mode, a, b, c, d),
+        Verdict::Refused(_) => verdict,
+    }
+}
+
+// The plain step takes no selectors: signs 0, mode 0.
+pub fn plain_step(kind: Kind, a: &[u32], b: &[u32], c: &[u32], d: &mut [u32]) -> Verdict
+    ensures { λ r. ⌜ told r ≡ plainAnswer (kind .0) (length (now (a .entry))) (length (now (b .entry))) (length (now (c .entry))) (length (now (d .entry))) ⌝ }
+    ensures { λ r. ⌜ now (d .exit) ≡ after (told r) (stepped (kind .0) 0 0 (now (a .entry)) (now (b .entry)) (now (c .entry))) (now (d .entry)) ⌝ }
+{
+    step(kind, Signs(0), Mode(0), a, b, c, d)
+}
