@@ -7,7 +7,7 @@ use lib.ListN.{getD}
 use Rattle.kinds.specs.Kinds.{lanes, kindOf, entryOf, roleOf, elements}
 use Rattle.kinds.specs.Places.{placeOf}
 use Rattle.kinds.specs.Rule.{placeIn, turn}
-use Rattle.kinds.specs.Refusals.{Answer, given, refusal, told, numberOf, detailOf}
+use Rattle.kinds.specs.Refusals.{Answer, given, refusal, told, after, numberOf, detailOf}
 use Rattle.kinds.specs.Answers.{placeAnswer, findAnswer, toldPlace, toldHolder}
 use Rattle.kinds.specs.declared.Refusal.{Refusal}
 use Rattle.kinds.specs.declared.Refusal.the-variants.{UnknownKind, UnknownRole, NotArithmetic, BadSelectors, WrongLength, Outside, TooWide, BadScale, RunFull, BadRun}
@@ -99,3 +99,7 @@ one-holder a b k r x y = one-answer toldHolder heldOf held-back a b (findAnswer 
 -- and two verdicts of any call that are told alike
 pub one-verdict : (a b : Verdict) (q : Answer (Unit {0})) → told a ≡ q → told b ≡ q → a ≡ b
 one-verdict = one-answer told verdictOf verdict-back
+
+-- with what stands in a buffer, or a run, on return
+pub one-written : {B : Type 0} (a b : Verdict) (q : Answer (Unit {0})) (new old x y : B) → told a ≡ q → told b ≡ q → x ≡ after (told a) new old → y ≡ after (told b) new old → (a ≡ b) × (x ≡ y)
+one-written a b q new old x y p r ex ey = (one-verdict a b q p r, ex ∙ ap (λ (t : Answer (Unit {0})). after t new old) (p ∙ sym r) ∙ sym ey)

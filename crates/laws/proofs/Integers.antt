@@ -130,3 +130,12 @@ pub wraps-only : (w : ℕ) (z : ℤ) → w < 2 ^ 32 → Wraps (int32 w) z → w 
 unfolding Wraps
 wraps-only w z h (k, e) =
     only w (up z) (down z) (up k) (down k) h (sym (as-diff z) ∙ e ∙ ap (λ (y : ℤ). int32 w +ℤ y *ℤ pos (2 ^ 32)) (as-diff k)) ∙ ap word32 (sym (as-diff z))
+
+-- a number in range is left alone; past an end it becomes that end
+pub clamp-in : (n : ℕ) → n ≤ 2147483647 → (clamp (pos n) ≡ pos n) × (clamp (negsuc n) ≡ negsuc n)
+unfolding clamp
+clamp-in n h = let e : min n 2147483647 ≡ n = omega arith in (ap pos e, ap negsuc e)
+
+pub clamp-past : (n : ℕ) → 2147483647 ≤ n → (clamp (pos n) ≡ pos 2147483647) × (clamp (negsuc n) ≡ negsuc 2147483647)
+unfolding clamp
+clamp-past n h = let e : min n 2147483647 ≡ 2147483647 = omega arith in (ap pos e, ap negsuc e)

@@ -59,14 +59,17 @@ clamp-range z =
     sub-eq (up z) (down z) (0 + (up z + 2 ^ 31)) (2 ^ 31 + down z) (omega arith) ∙ sym (sub-add 0 (2 ^ 31) (up z + 2 ^ 31) (down z)) in
     (min top ((0 + (up z + 2 ^ 31)) - down z), ap clamp (as-diff z ∙ k) ∙ step-is 0 (up z + 2 ^ 31) (down z), omega arith)
 
+-- the word of a clamped number has that number
+pub clamp-word : (z : ℤ) → int32 (word32 (clamp z)) ≡ clamp z
+clamp-word z = let r = clamp-range z in ap (λ (x : ℤ). int32 (word32 x)) (r .1) ∙ int-word (r .0) (r .2) ∙ sym (r .1)
+
 -- in the order fed: the total clamped after each block
 pub fed-clamped : (c : ℕ) (zs : List ℤ) → c < 2 ^ 32 → int32 (clampedBy c zs) ≡ clampedEach (int32 c) zs
 unfolding clampedBy clampedEach
 fed-clamped c [] h = refl
 fed-clamped c (z ∷ zs) h =
-    let r = clamp-range (int32 c +ℤ z) in
     fed-clamped (word32 (clamp (int32 c +ℤ z))) zs (word-lt (clamp (int32 c +ℤ z)))
-    ∙ ap (λ (x : ℤ). clampedEach x zs) (ap (λ (x : ℤ). int32 (word32 x)) (r .1) ∙ int-word (r .0) (r .2) ∙ sym (r .1))
+    ∙ ap (λ (x : ℤ). clampedEach x zs) (clamp-word (int32 c +ℤ z))
 
 -- none negative: the total is a natural number
 unfoldable size : List ℤ → ℕ

@@ -4,9 +4,9 @@ use mathlib.Core.List.{List}
 use Prim.Native.Nat.{ℕ, suc, _+_, _-_, _*_, _/_, _%_, _^_, _<_, _≤_}
 use native.Mathlib.Nat.{div-lt-iff-lt-mul, mod-lt}
 use native.Mathlib.Omega.{arith}
-use lib.Arith.{digits-div, digits-mod}
+use lib.Arith.{digits-lt, digits-div, digits-mod}
 use lib.Dec.{T, leb, eqb, leb→le, eqb→eq}
-use lib.ListN.{getD}
+use lib.ListN.{length, getD}
 use lib.IntN.{_+ℤ_}
 use Rattle.laws.specs.Choice.{if_then_else_, _=?_}
 use Rattle.laws.specs.Integers.{int32, clamp}
@@ -14,7 +14,7 @@ use Rattle.laws.specs.Fields.{field, joined}
 use Rattle.laws.specs.Lists.{tab, blocks}
 use Rattle.laws.proofs.Every.{all, all-at}
 use Rattle.laws.proofs.Fields.{field-joined}
-use Rattle.laws.proofs.Lists.{getD-tab, tab-ext}
+use Rattle.laws.proofs.Lists.{length-tab, getD-tab, tab-ext}
 use Rattle.laws.proofs.Integers.{word-lt}
 use Rattle.kinds.specs.Kinds.{lanes, entryOf, roleOf, columns}
 use Rattle.kinds.specs.Rule.{Laid, sideOf, elementsOf, rowsOf, columnsOf, laneOf, elementOf, major, minor, placeIn, holderOf}
@@ -22,6 +22,7 @@ use Rattle.kinds.specs.declared.Entry.{Entry}
 use Rattle.kinds.specs.declared.Layout.{Layout}
 use Rattle.kinds.proofs.Table.{Legal, line, layoutAt, sane, rows-are, columns-are}
 use Rattle.warp.specs.Buffers.{index, laneNumber, elementAt, entryAt, unpackedOf, wordAt, packed}
+use Rattle.warp.specs.Answers.{Fitting}
 use Rattle.warp.proofs.Places.{place-in}
 use Rattle.warp.proofs.Round as round
 use Rattle.step.specs.Step.{entryIn, depth, limit, added, cellOf, resultAt, results, stepped}
@@ -161,3 +162,21 @@ module _ (k : ℕ) (low : 1 ≤ k) (high : k ≤ 5) where
     stepped-is =
         tab-ext (lanes * e .7) (blocks (e .7) (wordAt f (results k signs mode a b c))) (blocks (e .7) (λ lane i. at (major 2 (e .0 / 8) lane i) (minor 2 (e .0 / 8) lane i)))
         (λ x h. word-is (x / e .7) (x % e .7) (div-lt-iff-lt-mul (laid .words-pos) .1 h) (mod-lt x (laid .words-pos)))
+
+    -- read as a matrix, D has the results
+    results-length : length (results k signs mode a b c) ≡ rowsOf f * columnsOf f
+    results-length = ap length results-are ∙ length-tab (rowsOf f * columnsOf f) (blocks (columnsOf f) at)
+
+    results-fit : Fitting (f .bits) (results k signs mode a b c)
+    results-fit x h =
+        let e : getD (results k signs mode a b c) x 0 ≡ at (x / columnsOf f) (x % columnsOf f)
+        = ap (λ (xs : List ℕ). getD xs x 0) results-are ∙ getD-tab (rowsOf f * columnsOf f) (blocks (columnsOf f) at) x 0 (subst (λ (n : ℕ). x < n) results-length h) in
+        subst (λ (n : ℕ). getD (results k signs mode a b c) x 0 < 2 ^ n) (sym sum-bits) (subst (λ (v : ℕ). v < 2 ^ 32) (sym e) (result-lt (x / columnsOf f) (x % columnsOf f)))
+
+    pub entry-D : (row column : ℕ) → row < rowsOf f → column < columnsOf f → entryIn k 2 (stepped k signs mode a b c) row column ≡ at row column
+    unfolding entryIn stepped
+    entry-D row column hr hc =
+        ap₂ (λ (xs : List ℕ) (n : ℕ). getD xs n 0) (round.pack-unpack f laid (results k signs mode a b c) results-fit results-length) (sym (index-is (row, column)))
+        ∙ ap (λ (xs : List ℕ). getD xs (index (columnsOf f) (row, column)) 0) results-are
+        ∙ getD-tab (rowsOf f * columnsOf f) (blocks (columnsOf f) at) (index (columnsOf f) (row, column)) 0 (digits-lt hr hc)
+        ∙ ap₂ at (digits-div row hc) (digits-mod row hc)
