@@ -45,7 +45,7 @@ module _ (k signs mode : ℕ) where
     one-off true e = simp (eq-eqb signs 0 (r .plain (eqb-true k 1 e)))
     one-off false e = refl
 
-    selectors-ok : noSelectors k signs mode ≡ false
+    pub selectors-ok : noSelectors k signs mode ≡ false
     selectors-ok = simp (le-ltb 3 signs (r .signs-le), le-ltb 1 mode (r .mode-le)) (one-off (oneBit k) refl)
 
     pub selected-is : {X : Type 0} (rest : Answer X) → selected k signs mode rest ≡ rest

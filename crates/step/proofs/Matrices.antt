@@ -13,10 +13,10 @@ use Rattle.laws.specs.Integers.{int32, clamp}
 use Rattle.laws.specs.Fields.{field, joined}
 use Rattle.laws.specs.Lists.{tab, blocks}
 use Rattle.laws.proofs.Every.{all, all-at}
-use Rattle.laws.proofs.Fields.{field-joined}
+use Rattle.laws.proofs.Fields.{field-lt, field-joined}
 use Rattle.laws.proofs.Lists.{length-tab, getD-tab, tab-ext}
 use Rattle.laws.proofs.Integers.{word-lt}
-use Rattle.kinds.specs.Kinds.{lanes, entryOf, roleOf, columns}
+use Rattle.kinds.specs.Kinds.{lanes, entryOf, roleOf, rows, columns}
 use Rattle.kinds.specs.Rule.{Laid, sideOf, elementsOf, rowsOf, columnsOf, laneOf, elementOf, major, minor, placeIn, holderOf}
 use Rattle.kinds.specs.declared.Entry.{Entry}
 use Rattle.kinds.specs.declared.Layout.{Layout}
@@ -180,3 +180,12 @@ module _ (k : ℕ) (low : 1 ≤ k) (high : k ≤ 5) where
         ∙ ap (λ (xs : List ℕ). getD xs (index (columnsOf f) (row, column)) 0) results-are
         ∙ getD-tab (rowsOf f * columnsOf f) (blocks (columnsOf f) at) (index (columnsOf f) (row, column)) 0 (digits-lt hr hc)
         ∙ ap₂ at (digits-div row hc) (digits-mod row hc)
+
+  -- every entry of C or D is a 32-bit number
+  pub entry-lt : (ws : List ℕ) (row column : ℕ) → row < rows e (roleOf 2) → column < columns e (roleOf 2) → entryIn k 2 ws row column < 2 ^ 32
+  unfolding elementAt
+  entry-lt ws row column hr hc =
+      let l = legal 2 (omega arith) in
+      let x = holderOf f (row, column) in
+      subst (λ (v : ℕ). v < 2 ^ 32) (sym (entry-is k 2 l ws row column (subst (λ (n : ℕ). row < n) (rows-are k 2 l) hr) (subst (λ (n : ℕ). column < n) (columns-are k 2 l) hc)))
+      (subst (λ (b : ℕ). field b (x .1) (laneNumber (e .7) ws (x .0)) < 2 ^ 32) (sym sum-bits) (field-lt 32 (x .1) (laneNumber (e .7) ws (x .0))))

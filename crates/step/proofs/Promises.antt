@@ -68,7 +68,7 @@ module _ (k signs mode row : ℕ) (a a′ b b′ c c′ : List ℕ)
   unfolding combinedBits
   same-bits column h = tab-ext (depth k) _ _ (λ kk l. ap₂ (combine mode) (same-a kk l) (same-b kk column l h))
 
-  same-added : (column : ℕ) → column < columnsD k → added k signs mode a b row column ≡ added k signs mode a′ b′ row column
+  pub same-added : (column : ℕ) → column < columnsD k → added k signs mode a b row column ≡ added k signs mode a′ b′ row column
   unfolding added
   same-added column h = ap₂ (λ (bits : List ℕ) (z : ℤ). if oneBit k then pos (onesIn bits) else z) (same-bits column h) (same-products column h)
 
