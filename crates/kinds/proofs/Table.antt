@@ -3,9 +3,9 @@ use mathlib.Core.Path.{_≡_}
 use mathlib.Core.Bool.{_||_}
 use Prim.Native.Nat.{ℕ, _-_, _*_, _/_, _<_, _≤_}
 use native.Mathlib.Omega.{arith}
-use borrow.Author.Tests.{eqb-true, ne-eqb}
+use borrow.Author.Tests.{eqb-true, ne-eqb, lt-ltb}
 use lib.Dec.{T, leb, eqb}
-use Rattle.laws.specs.Choice.{_=?_}
+use Rattle.laws.specs.Choice.{if_then_else_, _<?_, _=?_}
 use lib.ListN.{getD}
 use Rattle.laws.proofs.Every.{all₂, all₂-≤, all₂-≡, all₂-true}
 use Rattle.laws.proofs.Choice.{or-right}
@@ -72,6 +72,11 @@ module _ (k r : ℕ) (ok : Legal k r) where
       (or-right (layoutAt k r .bits =? 64) _ (ne-eqb (layoutAt k r .bits) 64 ne)
       (all₂-true kinds roles (λ j r. layoutOf (line j) (roleOf r) .bits =? 64 || f (line j) (roleOf r) =? g (line j) (roleOf r)) t (k - 1) r (omega arith) (omega arith)))
 
+  narrow-side : layoutAt k r .bits < wordBits → layoutAt k r .side ≡ wordBits / layoutAt k r .bits
+  narrow-side h =
+      rw (lt-ltb (layoutAt k r .bits) wordBits h) at
+      (eq-test (λ e ρ. if layoutOf e ρ .bits <? wordBits then layoutOf e ρ .side else 0) (λ e ρ. if layoutOf e ρ .bits <? wordBits then wordBits / layoutOf e ρ .bits else 0) tt)
+
   pub sane : Laid (layoutAt k r)
   sane = record {
     width = record {
@@ -92,4 +97,5 @@ module _ (k r : ℕ) (ok : Legal k r) where
     minors-le = le-test (λ e ρ. minors (layoutOf e ρ)) (λ e ρ. 128) tt;
     full = eq-test (λ e ρ. layoutOf e ρ .bits * elementsOf (layoutOf e ρ)) (λ e ρ. wordBits * layoutOf e ρ .words) tt;
     aligned = narrow-test (λ e ρ. layoutOf e ρ .side / (wordBits / layoutOf e ρ .bits) * (wordBits / layoutOf e ρ .bits)) (λ e ρ. layoutOf e ρ .side) tt;
+    narrow-side = narrow-side;
   }

@@ -93,6 +93,7 @@ pub record Sane (bits words side halves spans : ℕ) : Type 0 where
   pub minors-le : spans * 4 * side ≤ 128
   pub full : bits * (spans * halves * side) ≡ wordBits * words
   pub aligned : (bits ≡ 64 → ⊥) → side / (wordBits / bits) * (wordBits / bits) ≡ side
+  pub narrow-side : bits < wordBits → side ≡ wordBits / bits
 
 abbrev pub Laid : Layout → Type 0
 Laid f = Sane (f .bits) (f .words) (f .side) (f .halves) (f .spans)

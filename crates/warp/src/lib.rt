@@ -179,146 +179,13 @@ fn columns_in(f: Layout) -> usize
     f.spans * 4 * f.side
 }
 
-// The same as fill, with the numbers of each width written out, so that the compiler makes a loop for each.
-fn fill_by_width(words: &[u32], matrix: &mut [u64], f: Layout, rows: usize, columns: usize)
-    requires { ⌜ Laid f × (length (now words) ≡ lanes * f .words) ⌝ }
-    requires { ⌜ (rows ≡ rowsOf f) × (columns ≡ columnsOf f) × (length (now matrix) ≡ rows * columns) ⌝ }
+// A layout's matrix, by a width and a side that are the layout's own.
+fn fill_with(words: &[u32], matrix: &mut [u64], f: Layout, bits: usize, side: usize)
+    requires { ⌜ Laid f × (length (now words) ≡ lanes * f .words) × (length (now matrix) ≡ rowsOf f * columnsOf f) × (f .bits ≡ bits) × (f .side ≡ side) ⌝ }
     ensures { λ _. ⌜ now (matrix .exit) ≡ unpacked f (now (words .entry)) ⌝ }
 {
-    let bits = f.bits;
-    let side = f.side;
-    if bits == 1 {
-        if side == 32 {
-            fill(
-                words,
-                matrix,
-                1,
-                f.words,
-                32,
-                f.halves,
-                f.spans,
-                f.turned,
-                rows,
-                columns,
-            );
-            return;
-        }
-    }
-    if bits == 4 {
-        if side == 8 {
-            fill(
-                words,
-                matrix,
-                4,
-                f.words,
-                8,
-                f.halves,
-                f.spans,
-                f.turned,
-                rows,
-                columns,
-            );
-            return;
-        }
-    }
-    if bits == 8 {
-        if side == 4 {
-            fill(
-                words,
-                matrix,
-                8,
-                f.words,
-                4,
-                f.halves,
-                f.spans,
-                f.turned,
-                rows,
-                columns,
-            );
-            return;
-        }
-    }
-    if bits == 16 {
-        if side == 2 {
-            fill(
-                words,
-                matrix,
-                16,
-                f.words,
-                2,
-                f.halves,
-                f.spans,
-                f.turned,
-                rows,
-                columns,
-            );
-            return;
-        }
-    }
-    if bits == 32 {
-        if side == 1 {
-            fill(
-                words,
-                matrix,
-                32,
-                f.words,
-                1,
-                f.halves,
-                f.spans,
-                f.turned,
-                rows,
-                columns,
-            );
-            return;
-        }
-        if side == 2 {
-            fill(
-                words,
-                matrix,
-                32,
-                f.words,
-                2,
-                f.halves,
-                f.spans,
-                f.turned,
-                rows,
-                columns,
-            );
-            return;
-        }
-    }
-    if bits == 64 {
-        if side == 1 {
-            fill(
-                words,
-                matrix,
-                64,
-                f.words,
-                1,
-                f.halves,
-                f.spans,
-                f.turned,
-                rows,
-                columns,
-            );
-            return;
-        }
-        if side == 2 {
-            fill(
-                words,
-                matrix,
-                64,
-                f.words,
-                2,
-                f.halves,
-                f.spans,
-                f.turned,
-                rows,
-                columns,
-            );
-            return;
-        }
-    }
+    let rows = rows_in(f);
+    let columns = columns_in(f);
     fill(
         words,
         matrix,
@@ -331,6 +198,44 @@ fn fill_by_width(words: &[u32], matrix: &mut [u64], f: Layout, rows: usize, colu
         rows,
         columns,
     );
+}
+
+// The same, with the numbers of each width written out, so that the compiler makes a loop for each.
+fn fill_by_width(words: &[u32], matrix: &mut [u64], f: Layout)
+    requires { ⌜ Laid f × (length (now words) ≡ lanes * f .words) × (length (now matrix) ≡ rowsOf f * columnsOf f) ⌝ }
+    ensures { λ _. ⌜ now (matrix .exit) ≡ unpacked f (now (words .entry)) ⌝ }
+{
+    let bits = f.bits;
+    if bits == 1 {
+        return fill_with(words, matrix, f, 1, 32);
+    }
+    if bits == 4 {
+        return fill_with(words, matrix, f, 4, 8);
+    }
+    if bits == 8 {
+        return fill_with(words, matrix, f, 8, 4);
+    }
+    if bits == 16 {
+        return fill_with(words, matrix, f, 16, 2);
+    }
+    let side = f.side;
+    if bits == 32 {
+        if side == 1 {
+            return fill_with(words, matrix, f, 32, 1);
+        }
+        if side == 2 {
+            return fill_with(words, matrix, f, 32, 2);
+        }
+    }
+    if bits == 64 {
+        if side == 1 {
+            return fill_with(words, matrix, f, 64, 1);
+        }
+        if side == 2 {
+            return fill_with(words, matrix, f, 64, 2);
+        }
+    }
+    fill_with(words, matrix, f, bits, side);
 }
 
 fn unpack_in(f: Layout, words: &[u32], matrix: &mut [u64]) -> Verdict
@@ -347,7 +252,7 @@ fn unpack_in(f: Layout, words: &[u32], matrix: &mut [u64]) -> Verdict
     if matrix.len() != rows * columns {
         return Verdict::Refused(Refusal::WrongLength(1));
     }
-    fill_by_width(words, matrix, f, rows, columns);
+    fill_by_width(words, matrix, f);
     Verdict::Accepted
 }
 
@@ -519,138 +424,12 @@ fn first_wide(matrix: &[u64], bits: usize) -> usize
     i
 }
 
-// The same as fill_words, with the numbers of each width written out.
-fn fill_words_by_width(matrix: &[u64], words: &mut [u32], f: Layout, columns: usize)
-    requires { ⌜ Laid f × Fitting (f .bits) (now matrix) ⌝ }
-    requires { ⌜ Matrix f columns (now matrix) × (length (now words) ≡ lanes * f .words) ⌝ }
+// A layout's words, by a width and a side that are the layout's own.
+fn fill_words_with(matrix: &[u64], words: &mut [u32], f: Layout, bits: usize, side: usize)
+    requires { ⌜ Laid f × Fitting (f .bits) (now matrix) × (length (now matrix) ≡ rowsOf f * columnsOf f) × (length (now words) ≡ lanes * f .words) × (f .bits ≡ bits) × (f .side ≡ side) ⌝ }
     ensures { λ _. ⌜ now (words .exit) ≡ packed f (now (matrix .entry)) ⌝ }
 {
-    let bits = f.bits;
-    let side = f.side;
-    if bits == 1 {
-        if side == 32 {
-            fill_words(
-                matrix,
-                words,
-                1,
-                f.words,
-                32,
-                f.halves,
-                f.spans,
-                f.turned,
-                columns,
-            );
-            return;
-        }
-    }
-    if bits == 4 {
-        if side == 8 {
-            fill_words(
-                matrix,
-                words,
-                4,
-                f.words,
-                8,
-                f.halves,
-                f.spans,
-                f.turned,
-                columns,
-            );
-            return;
-        }
-    }
-    if bits == 8 {
-        if side == 4 {
-            fill_words(
-                matrix,
-                words,
-                8,
-                f.words,
-                4,
-                f.halves,
-                f.spans,
-                f.turned,
-                columns,
-            );
-            return;
-        }
-    }
-    if bits == 16 {
-        if side == 2 {
-            fill_words(
-                matrix,
-                words,
-                16,
-                f.words,
-                2,
-                f.halves,
-                f.spans,
-                f.turned,
-                columns,
-            );
-            return;
-        }
-    }
-    if bits == 32 {
-        if side == 1 {
-            fill_words(
-                matrix,
-                words,
-                32,
-                f.words,
-                1,
-                f.halves,
-                f.spans,
-                f.turned,
-                columns,
-            );
-            return;
-        }
-        if side == 2 {
-            fill_words(
-                matrix,
-                words,
-                32,
-                f.words,
-                2,
-                f.halves,
-                f.spans,
-                f.turned,
-                columns,
-            );
-            return;
-        }
-    }
-    if bits == 64 {
-        if side == 1 {
-            fill_words(
-                matrix,
-                words,
-                64,
-                f.words,
-                1,
-                f.halves,
-                f.spans,
-                f.turned,
-                columns,
-            );
-            return;
-        }
-        if side == 2 {
-            fill_words(
-                matrix,
-                words,
-                64,
-                f.words,
-                2,
-                f.halves,
-                f.spans,
-                f.turned,
-                columns,
-            );
-            return;
-        }
-    }
+    let columns = columns_in(f);
     fill_words(
         matrix,
         words,
@@ -662,6 +441,44 @@ fn fill_words_by_width(matrix: &[u64], words: &mut [u32], f: Layout, columns: us
         f.turned,
         columns,
     );
+}
+
+// The same, with the numbers of each width written out.
+fn fill_words_by_width(matrix: &[u64], words: &mut [u32], f: Layout)
+    requires { ⌜ Laid f × Fitting (f .bits) (now matrix) × (length (now matrix) ≡ rowsOf f * columnsOf f) × (length (now words) ≡ lanes * f .words) ⌝ }
+    ensures { λ _. ⌜ now (words .exit) ≡ packed f (now (matrix .entry)) ⌝ }
+{
+    let bits = f.bits;
+    if bits == 1 {
+        return fill_words_with(matrix, words, f, 1, 32);
+    }
+    if bits == 4 {
+        return fill_words_with(matrix, words, f, 4, 8);
+    }
+    if bits == 8 {
+        return fill_words_with(matrix, words, f, 8, 4);
+    }
+    if bits == 16 {
+        return fill_words_with(matrix, words, f, 16, 2);
+    }
+    let side = f.side;
+    if bits == 32 {
+        if side == 1 {
+            return fill_words_with(matrix, words, f, 32, 1);
+        }
+        if side == 2 {
+            return fill_words_with(matrix, words, f, 32, 2);
+        }
+    }
+    if bits == 64 {
+        if side == 1 {
+            return fill_words_with(matrix, words, f, 64, 1);
+        }
+        if side == 2 {
+            return fill_words_with(matrix, words, f, 64, 2);
+        }
+    }
+    fill_words_with(matrix, words, f, bits, side);
 }
 
 fn pack_in(f: Layout, matrix: &[u64], words: &mut [u32]) -> Verdict
@@ -683,7 +500,7 @@ fn pack_in(f: Layout, matrix: &[u64], words: &mut [u32]) -> Verdict
     if wide < matrix.len() {
         return Verdict::Refused(Refusal::TooWide(wide));
     }
-    fill_words_by_width(matrix, words, f, columns);
+    fill_words_by_width(matrix, words, f);
     Verdict::Accepted
 }
 

@@ -59,10 +59,8 @@ fill-words-by-width-requires : tie.Need-fill-words-by-width-requires
 fill-words-by-width-requires c κs =
     let e = c .before in
     let w = e .before in
-    let s = w .before .before .before .before .before .before .before in (
-      (s .pre, first-fits (s .args .f .bits) (now (s .args .matrix)) (whole e)),
-      (record { wide = w .before .before .before .columns-in .ensures .0; whole = w .before .before .if1 .left ∙ size (w .before .before .before) }, w .before .if2 .left),
-    )
+    let s = w .before .before .before .before .before .before .before in
+    (s .pre, first-fits (s .args .f .bits) (now (s .args .matrix)) (whole e), w .before .before .if1 .left ∙ size (w .before .before .before), w .before .if2 .left)
 
 same-length : tie.Need-same-length
 same-length c = search needs

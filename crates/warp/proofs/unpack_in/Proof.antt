@@ -34,7 +34,9 @@ unfolding unpackBy
 returns-2 c = (simp (eq-eqb _ _ (c .before .if1 .left), ne-eqb _ _ (λ q. c .if2 .taken (q ∙ sym (size (c .before .before))))), refl)
 
 fill-by-width-requires : tie.Need-fill-by-width-requires
-fill-by-width-requires c κs = search needs
+fill-by-width-requires c κs =
+    let a = c .before in
+    (a .before .before .before .before .before .before .pre, a .before .if1 .left, a .if2 .left ∙ size (a .before .before))
 
 same-length : tie.Need-same-length
 same-length c = search needs
