@@ -1,0 +1,152 @@
+-- Blocks fed one after the other go their own way at each place: the word there takes in what each block adds, and the number counts the
+-- blocks. So demand 3 is what holds of one word. Assumes nothing.
+use mathlib.Core.Path.{_≡_, refl, sym, ap, ap₂, subst, _∙_}
+use mathlib.Core.Bool.{Bool, true, false, not, _&&_, _||_}
+use mathlib.Core.List.{List, [], _∷_, _++_, List·Permᴰ, List·Permᴰ·nil, List·Permᴰ·cons, List·Permᴰ·swap, List·Permᴰ·trans}
+use Prim.Native.Nat.{ℕ, zero, suc, _+_, _-_, _*_, _^_, _<_, _≤_}
+use native.Mathlib.Omega.{arith}
+use borrow.Author.Tests.{eq-eqb, le-leb, lt-leb, le-ltb}
+use lib.IntN.{ℤ, _+ℤ_}
+use lib.ListN.{length, take, drop, length-append, length-drop}
+use lib.Seq.{take-at}
+use Rattle.laws.specs.Choice.{if_then_else_, _<?_, _≤?_, _=?_}
+use Rattle.laws.specs.Integers.{int32, word32, clamp}
+use Rattle.laws.specs.Totals.{total, wrappedBy, clampedBy, clampedEach, NoneNegative, NonePositive, Wraps}
+use Rattle.laws.proofs.Totals.{fed-wraps, fed-up, fed-down, fed-clamped}
+use Rattle.kinds.specs.Refusals.{Answer, given, refusal, after}
+use Rattle.kinds.proofs.Table.{layoutAt, sane}
+use Rattle.warp.specs.Answers.{wordsNeeded}
+use Rattle.warp.proofs.Answers.{words-needed}
+use Rattle.warp.proofs.Round as round
+use Rattle.step.specs.Step.{entryIn, added, limit, cellOf, resultAt, results, stepped}
+use Rattle.step.specs.Answers.{Ready, noSelectors}
+use Rattle.step.proofs.Accepted.{selectors-ok}
+use Rattle.step.proofs.Matrices.{legal}
+use Rattle.step.proofs.Promises.{rowsD, columnsD, result-at}
+use Rattle.run.specs.declared.Run.{Run}
+use Rattle.run.specs.Runs.{runOf, withUsed, usedOf, fedRun}
+use Rattle.run.specs.Answers.{feedAnswer}
+use Rattle.run.specs.Blocks.{Block, fedBy, fedAll, AllAccepted, contributions, sumAt}
+use Rattle.run.proofs.Laws.{feed-accepted}
+
+-- a word after what each block adds
+unfoldable pub fedCell : (mode w : ℕ) → List ℤ → ℕ
+fedCell mode w [] = w
+fedCell mode w (z ∷ zs) = fedCell mode (cellOf mode w z) zs
+
+pub wraps-each : (w : ℕ) (zs : List ℤ) → fedCell 0 w zs ≡ wrappedBy w zs
+unfolding fedCell wrappedBy cellOf
+wraps-each w [] = refl
+wraps-each w (z ∷ zs) = wraps-each (word32 (int32 w +ℤ z)) zs
+
+pub clamps-each : (w : ℕ) (zs : List ℤ) → fedCell 1 w zs ≡ clampedBy w zs
+unfolding fedCell clampedBy cellOf
+clamps-each w [] = refl
+clamps-each w (z ∷ zs) = clamps-each (word32 (clamp (int32 w +ℤ z))) zs
+
+-- a step's D has the words that it needs
+stepped-length : (k signs mode : ℕ) → Ready k signs mode → (a b c : List ℕ) → length (stepped k signs mode a b c) ≡ wordsNeeded k 2
+unfolding stepped
+stepped-length k signs mode ok a b c =
+    let l = legal k (ok .low) (ok .high) 2 (omega arith) in
+    round.packed-length (layoutAt k 2) (sane k 2 l) (results k signs mode a b c) ∙ words-needed k 2 l
+
+perm-length : {xs ys : List Block} → List·Permᴰ xs ys → length xs ≡ length ys
+perm-length List·Permᴰ·nil = refl
+perm-length (List·Permᴰ·cons e d) = ap suc (perm-length d)
+perm-length (List·Permᴰ·swap e f) = refl
+perm-length (List·Permᴰ·trans d e) = perm-length d ∙ perm-length e
+
+module _ (k signs mode : ℕ) (ok : Ready k signs mode) where
+  abbrev N : ℕ
+  N = wordsNeeded k 2
+
+  -- one accepted feed
+  module _ (n : ℕ) (sums : List ℕ) (x : Block) (e : feedAnswer (runOf k signs mode n sums) (length (x .a)) (length (x .b)) ≡ given tt) where
+    abbrev next : List ℕ
+    next = withUsed (stepped k signs mode (x .a) (x .b) (take N sums)) sums
+
+    fed-is : fedBy (runOf k signs mode n sums) x ≡ runOf k signs mode (n + 1) next
+    unfolding fedRun usedOf
+    fed-is = ap (λ (t : Answer (Unit {0})). after t (fedRun (runOf k signs mode n sums) (x .a) (x .b)) (runOf k signs mode n sums)) e
+
+  next-used : (sums : List ℕ) (x : Block) → take N (withUsed (stepped k signs mode (x .a) (x .b) (take N sums)) sums) ≡ stepped k signs mode (x .a) (x .b) (take N sums)
+  unfolding withUsed
+  next-used sums x = take-at (stepped k signs mode (x .a) (x .b) (take N sums)) (drop (length (stepped k signs mode (x .a) (x .b) (take N sums))) sums) N (stepped-length k signs mode ok (x .a) (x .b) (take N sums))
+
+  -- the word at a place takes in what the block adds
+  place-next : (sums : List ℕ) (x : Block) (row column : ℕ) → row < rowsD k → column < columnsD k
+      → entryIn k 2 (take N (withUsed (stepped k signs mode (x .a) (x .b) (take N sums)) sums)) row column ≡ cellOf (limit k mode) (entryIn k 2 (take N sums) row column) (added k signs mode (x .a) (x .b) row column)
+  unfolding resultAt
+  place-next sums x row column hr hc =
+      ap (λ (ws : List ℕ). entryIn k 2 ws row column) (next-used sums x)
+      ∙ result-at k signs mode ok (x .a) (x .b) (take N sums) row column hr hc
+
+  pub fed-at : (n : ℕ) (sums : List ℕ) (xs : List Block) → AllAccepted (runOf k signs mode n sums) xs → (row column : ℕ) → row < rowsD k → column < columnsD k
+      → entryIn k 2 (usedOf (fedAll (runOf k signs mode n sums) xs)) row column ≡ fedCell (limit k mode) (entryIn k 2 (take N sums) row column) (contributions k signs mode row column xs)
+  unfolding fedAll AllAccepted contributions fedCell usedOf
+  fed-at n sums [] h row column hr hc = refl
+  fed-at n sums (x ∷ xs) h row column hr hc =
+      let g = fed-is n sums x (h .0) in
+      ap (λ (r : Run). entryIn k 2 (usedOf (fedAll r xs)) row column) g
+      ∙ fed-at (n + 1) (next n sums x (h .0)) xs (subst (λ (r : Run). AllAccepted r xs) g (h .1)) row column hr hc
+      ∙ ap (λ (w : ℕ). fedCell (limit k mode) w (contributions k signs mode row column xs)) (place-next sums x row column hr hc)
+
+  -- kind, signs and mode stay, and the number counts the accepted blocks
+  pub fed-kept : (n : ℕ) (sums : List ℕ) (xs : List Block) → AllAccepted (runOf k signs mode n sums) xs
+      → (ws : List ℕ) × (fedAll (runOf k signs mode n sums) xs ≡ runOf k signs mode (n + length xs) ws)
+  unfolding fedAll AllAccepted
+  fed-kept n sums [] h = (sums, ap (λ (m : ℕ). runOf k signs mode m sums) (omega arith))
+  fed-kept n sums (x ∷ xs) h =
+      let g = fed-is n sums x (h .0) in
+      let r = fed-kept (n + 1) (next n sums x (h .0)) xs (subst (λ (r : Run). AllAccepted r xs) g (h .1)) in
+      let e : n + 1 + length xs ≡ n + suc (length xs) = omega arith in
+      (r .0, ap (λ (r : Run). fedAll r xs) g ∙ r .1 ∙ ap (λ (m : ℕ). runOf k signs mode m (r .0)) e)
+
+  -- blocks are accepted exactly where each has the lengths needed and there are not too many
+  abbrev Sized : Block → Type 0
+  Sized x = (length (x .a) ≡ wordsNeeded k 0) × (length (x .b) ≡ wordsNeeded k 1)
+
+  accepted-one : (n : ℕ) (sums : List ℕ) (x : Block) → n < 4096 → Sized x → feedAnswer (runOf k signs mode n sums) (length (x .a)) (length (x .b)) ≡ given tt
+  unfolding feedAnswer
+  accepted-one n sums x h s =
+      simp (le-leb 1 k (ok .low), le-leb k 5 (ok .high), selectors-ok k signs mode ok, le-ltb 4096 n (omega arith), lt-leb 4096 n h, eq-eqb (length (x .a)) (wordsNeeded k 0) (s .0), eq-eqb (length (x .b)) (wordsNeeded k 1) (s .1))
+
+  abbrev AllSized : List Block → Type 0
+  AllSized [] = Unit {0}
+  AllSized (x ∷ xs) = Sized x × AllSized xs
+
+  accepted-all : (n : ℕ) (sums : List ℕ) (xs : List Block) → n + length xs ≤ 4096 → AllSized xs → AllAccepted (runOf k signs mode n sums) xs
+  unfolding AllAccepted
+  accepted-all n sums [] h s = tt
+  accepted-all n sums (x ∷ xs) h s =
+      let e = accepted-one n sums x (omega arith) (s .0) in
+      (e, subst (λ (r : Run). AllAccepted r xs) (sym (fed-is n sums x e)) (accepted-all (n + 1) (next n sums x e) xs (omega arith) (s .1)))
+
+  sized-all : (n : ℕ) (sums : List ℕ) (xs : List Block) → n ≤ 4096 → AllAccepted (runOf k signs mode n sums) xs → (n + length xs ≤ 4096) × AllSized xs
+  unfolding AllAccepted
+  sized-all n sums [] h a = (omega arith, tt)
+  sized-all n sums (x ∷ xs) h a =
+      let f = feed-accepted (runOf k signs mode n sums) (length (x .a)) (length (x .b)) (a .0) in
+      let r = sized-all (n + 1) (next n sums x (a .0)) xs (omega (arith, f .1)) (subst (λ (r : Run). AllAccepted r xs) (fed-is n sums x (a .0)) (a .1)) in
+      (omega (arith, r .0), ((f .2, f .3), r .1))
+
+  sized-perm : {xs ys : List Block} → List·Permᴰ xs ys → AllSized xs → AllSized ys
+  sized-perm List·Permᴰ·nil h = tt
+  sized-perm (List·Permᴰ·cons e d) h = (subst Sized e (h .0), sized-perm d (h .1))
+  sized-perm (List·Permᴰ·swap e f) h = (subst Sized f (h .1 .0), (subst Sized e (h .0), h .1 .1))
+  sized-perm (List·Permᴰ·trans d e) h = sized-perm e (sized-perm d h)
+
+  -- so blocks that are accepted in one order are accepted in every order
+  pub accepted-order : (n : ℕ) (sums : List ℕ) {xs ys : List Block} → n ≤ 4096 → List·Permᴰ xs ys → AllAccepted (runOf k signs mode n sums) xs → AllAccepted (runOf k signs mode n sums) ys
+  accepted-order n sums {xs} {ys} h d a =
+      let s = sized-all n sums xs h a in
+      accepted-all n sums ys (omega (arith, s .0, perm-length d)) (sized-perm d (s .1))
+
+  -- and what they add at a place is a permutation too
+  pub added-perm : (row column : ℕ) {xs ys : List Block} → List·Permᴰ xs ys → List·Permᴰ (contributions k signs mode row column xs) (contributions k signs mode row column ys)
+  unfolding contributions
+  added-perm row column List·Permᴰ·nil = List·Permᴰ·nil
+  added-perm row column (List·Permᴰ·cons e d) = List·Permᴰ·cons (ap (λ (x : Block). added k signs mode (x .a) (x .b) row column) e) (added-perm row column d)
+  added-perm row column (List·Permᴰ·swap e f) = List·Permᴰ·swap (ap (λ (x : Block). added k signs mode (x .a) (x .b) row column) e) (ap (λ (x : Block). added k signs mode (x .a) (x .b) row column) f)
+  added-perm row column (List·Permᴰ·trans d e) = List·Permᴰ·trans (added-perm row column d) (added-perm row column e)

@@ -1,0 +1,3 @@
+pub mod Laws
+pub mod Demand
+pub mod Promises

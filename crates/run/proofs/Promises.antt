@@ -1,0 +1,149 @@
+-- Demand 3, sentence by sentence, and what document 01 promises of runs. The blocks are fed by the definitions that feed's contract cites, into
+-- a newly opened run; 'in every order' is every permutation of the list. Assumes nothing.
+use mathlib.Core.Path.{_≡_, refl, sym, ap, ap₂, subst, _∙_}
+use mathlib.Core.Bool.{Bool, true, false}
+use mathlib.Core.Logic.{_⊎_, inl, inr}
+use mathlib.Core.List.{List, [], _∷_, List·Permᴰ}
+use Prim.Native.Nat.{ℕ, zero, suc, _+_, _*_, _^_, _<_, _≤_}
+use native.Mathlib.Omega.{arith}
+use borrow.Author.Tests.{eq-eqb, ne-eqb, le-leb, le-ltb}
+use lib.IntN.{ℤ, _+ℤ_}
+use lib.ListN.{length, take, drop}
+use lib.Seq.{take-at}
+use Rattle.laws.specs.Choice.{if_then_else_, _=?_, _≤?_}
+use Rattle.laws.specs.Integers.{int32, clamp}
+use Rattle.laws.specs.Totals.{total, wrappedBy, clampedBy, clampedEach, NoneNegative, NonePositive, Wraps}
+use Rattle.laws.proofs.Totals.{fed-wraps, fed-up, fed-down, fed-clamped}
+use Rattle.kinds.specs.Refusals.{Answer, given, refusal, after}
+use Rattle.warp.specs.Answers.{wordsNeeded}
+use Rattle.step.specs.Step.{entryIn, depth, added, limit}
+use Rattle.step.specs.Answers.{Ready}
+use Rattle.step.proofs.Accepted.{selectors-ok}
+use Rattle.step.proofs.Matrices.{legal, entry-lt}
+use Rattle.step.proofs.Promises.{rowsD, columnsD, same-added}
+use Rattle.run.specs.declared.Run.{Run}
+use Rattle.run.specs.Runs.{runOf, zeros, withUsed, usedOf, openedRun, fedRun}
+use Rattle.run.specs.Answers.{openAnswer, feedAnswer}
+use Rattle.run.specs.Blocks.{Block, fedBy, fedAll, AllAccepted, contributions, sumAt}
+use Rattle.run.proofs.Laws.{open-accepted}
+use Rattle.run.proofs.Demand.{fedCell, wraps-each, clamps-each, fed-at, fed-kept, accepted-order, added-perm}
+
+-- a newly opened run of kind k, and a place of D
+module _ (k signs mode : ℕ) (c : List ℕ) (accepted : openAnswer k signs mode (length c) ≡ given tt) where
+  ok : Ready k signs mode
+  ok = open-accepted k signs mode (length c) accepted .0
+
+  abbrev start : Run
+  start = openedRun k signs mode c
+
+  used-start : take (wordsNeeded k 2) (withUsed c zeros) ≡ c
+  unfolding withUsed
+  used-start = take-at c (drop (length c) zeros) (wordsNeeded k 2) (open-accepted k signs mode (length c) accepted .1)
+
+  module _ (row column : ℕ) (hr : row < rowsD k) (hc : column < columnsD k) where
+    -- the start at that place, and what blocks add there
+    abbrev from : ℕ
+    from = entryIn k 2 c row column
+
+    abbrev adds : List Block → List ℤ
+    adds xs = contributions k signs mode row column xs
+
+    from-lt : from < 2 ^ 32
+    from-lt = entry-lt k (ok .low) (ok .high) c row column hr hc
+
+    sum-is : (xs : List Block) → AllAccepted (openedRun k signs mode c) xs → sumAt (fedAll (openedRun k signs mode c) xs) row column ≡ int32 (fedCell (limit k mode) from (adds xs))
+    unfolding sumAt openedRun
+    sum-is xs a =
+        let s = fed-kept k signs mode ok 0 (withUsed c zeros) xs a in
+        ap (λ (r : Run). int32 (entryIn (r .kind .0) 2 (usedOf (fedAll (runOf k signs mode 0 (withUsed c zeros)) xs)) row column)) (s .1)
+        ∙ ap int32 (fed-at k signs mode ok 0 (withUsed c zeros) xs a row column hr hc)
+        ∙ ap (λ (ws : List ℕ). int32 (fedCell (limit k mode) (entryIn k 2 ws row column) (adds xs))) used-start
+
+    order : {xs ys : List Block} → List·Permᴰ xs ys → AllAccepted (openedRun k signs mode c) xs → AllAccepted (openedRun k signs mode c) ys
+    unfolding openedRun
+    order d a = accepted-order k signs mode ok 0 (withUsed c zeros) (omega arith) d a
+
+    -- 'With wrapping, and always in the one-bit form, each sum at the end is the signed 32-bit number that differs from start plus all the exact
+    -- products, or bit counts, by a multiple of 2^32, in every order of the blocks.'
+    wrapping : (mode ≡ 0) ⊎ (k ≡ 1) → limit k mode ≡ 0
+    wrapping (inl e) = either (k =? 1)
+      where
+        either : (t : Bool) → (if t then 0 else mode) ≡ 0
+        either true = refl
+        either false = e
+    wrapping (inr e) = simp (eq-eqb k 1 e)
+
+    pub wrapped-total : (mode ≡ 0) ⊎ (k ≡ 1) → (xs ys : List Block) → AllAccepted (openedRun k signs mode c) xs → List·Permᴰ xs ys
+        → AllAccepted (openedRun k signs mode c) ys × Wraps (sumAt (fedAll (openedRun k signs mode c) ys) row column) (int32 from +ℤ total (adds xs))
+    wrapped-total w xs ys a d =
+        let b = order d a in
+        let e : sumAt (fedAll (openedRun k signs mode c) ys) row column ≡ int32 (wrappedBy from (adds ys))
+        = sum-is ys b ∙ ap (λ (m : ℕ). int32 (fedCell m from (adds ys))) (wrapping w) ∙ ap int32 (wraps-each from (adds ys)) in
+        (b, subst (λ (z : ℤ). Wraps z (int32 from +ℤ total (adds xs))) (sym e) (fed-wraps from (adds xs) (adds ys) from-lt (added-perm k signs mode ok row column d)))
+
+    -- 'With saturation in the other kinds, where no block's contribution to a place is negative, or none is positive, it is that exact total
+    -- clamped to 32 bits, again in every order.'
+    module _ (two : 2 ≤ k) (saturates : mode ≡ 1) where
+      clamping : limit k mode ≡ 1
+      clamping = simp (ne-eqb k 1 (λ e. omega arith)) saturates
+
+      each-is : (xs : List Block) → AllAccepted (openedRun k signs mode c) xs → sumAt (fedAll (openedRun k signs mode c) xs) row column ≡ int32 (clampedBy from (adds xs))
+      each-is xs a = sum-is xs a ∙ ap (λ (m : ℕ). int32 (fedCell m from (adds xs))) clamping ∙ ap int32 (clamps-each from (adds xs))
+
+      pub clamped-total : (xs ys : List Block) → AllAccepted (openedRun k signs mode c) xs → List·Permᴰ xs ys → (NoneNegative (adds xs)) ⊎ (NonePositive (adds xs))
+          → AllAccepted (openedRun k signs mode c) ys × (sumAt (fedAll (openedRun k signs mode c) ys) row column ≡ clamp (int32 from +ℤ total (adds xs)))
+      clamped-total xs ys a d (inl h) =
+          let b = order d a in
+          (b, each-is ys b ∙ fed-up from (adds xs) (adds ys) from-lt h (added-perm k signs mode ok row column d))
+      clamped-total xs ys a d (inr h) =
+          let b = order d a in
+          (b, each-is ys b ∙ fed-down from (adds xs) (adds ys) from-lt h (added-perm k signs mode ok row column d))
+
+      -- 'Otherwise it is the total clamped after each block in the order fed.'
+      pub clamped-each : (xs : List Block) → AllAccepted (openedRun k signs mode c) xs → sumAt (fedAll (openedRun k signs mode c) xs) row column ≡ clampedEach (int32 from) (adds xs)
+      clamped-each xs a = each-is xs a ∙ fed-clamped from (adds xs) from-lt
+
+  -- The number in the run is the number of accepted feeds since opening.
+  pub counted : (xs : List Block) → AllAccepted (openedRun k signs mode c) xs → fedAll (openedRun k signs mode c) xs .blocks ≡ length xs
+  unfolding openedRun
+  counted xs a = let s = fed-kept k signs mode ok 0 (withUsed c zeros) xs a in ap (λ (r : Run). r .blocks) (s .1) ∙ omega arith
+
+  -- The 4,097th is refused 9 and changes nothing.
+  full-at : (n : ℕ) (ws : List ℕ) (a b : ℕ) → n ≡ 4096 → feedAnswer (runOf k signs mode n ws) a b ≡ refusal 9 0
+  unfolding feedAnswer
+  full-at n ws a b e = simp (le-leb 1 k (ok .low), le-leb k 5 (ok .high), selectors-ok k signs mode ok, le-ltb 4096 n (omega arith), le-leb 4096 n (omega arith))
+
+  pub no-more : (xs : List Block) → AllAccepted (openedRun k signs mode c) xs → length xs ≡ 4096
+      → (a b : ℕ) → feedAnswer (fedAll (openedRun k signs mode c) xs) a b ≡ refusal 9 0
+  unfolding openedRun
+  no-more xs h n a b =
+      let s = fed-kept k signs mode ok 0 (withUsed c zeros) xs h in
+      ap (λ (r : Run). feedAnswer r a b) (s .1) ∙ full-at (0 + length xs) (s .0) a b (omega arith)
+
+-- 'No boat reaches another boat's row', over whole runs: two runs opened alike in row r, fed blocks that agree in row r of A and in B, agree in row r at
+-- the end.
+unfoldable pub Alike : (k row : ℕ) → List Block → List Block → Type 0
+Alike k row [] [] = Unit {0}
+Alike k row [] (y ∷ ys) = ⊥
+Alike k row (x ∷ xs) [] = ⊥
+Alike k row (x ∷ xs) (y ∷ ys) =
+    ((kk : ℕ) → kk < depth k → entryIn k 0 (x .a) row kk ≡ entryIn k 0 (y .a) row kk)
+    × ((kk column : ℕ) → kk < depth k → column < columnsD k → entryIn k 1 (x .b) kk column ≡ entryIn k 1 (y .b) kk column)
+    × Alike k row xs ys
+
+same-adds : (k signs mode row column : ℕ) → column < columnsD k → (xs ys : List Block) → Alike k row xs ys → contributions k signs mode row column xs ≡ contributions k signs mode row column ys
+unfolding Alike contributions
+same-adds k signs mode row column hc [] [] h = refl
+same-adds k signs mode row column hc [] (y ∷ ys) h = absurd h
+same-adds k signs mode row column hc (x ∷ xs) [] h = absurd h
+same-adds k signs mode row column hc (x ∷ xs) (y ∷ ys) h =
+    ap₂ _∷_ (same-added k signs mode row (x .a) (y .a) (x .b) (y .b) [] [] (h .0) (h .1) (λ column l. refl) column hc) (same-adds k signs mode row column hc xs ys (h .2))
+
+pub own-row : (k signs mode : ℕ) (c c′ : List ℕ) → openAnswer k signs mode (length c) ≡ given tt → openAnswer k signs mode (length c′) ≡ given tt
+    → (row : ℕ) → row < rowsD k → ((column : ℕ) → column < columnsD k → entryIn k 2 c row column ≡ entryIn k 2 c′ row column)
+    → (xs ys : List Block) → AllAccepted (openedRun k signs mode c) xs → AllAccepted (openedRun k signs mode c′) ys → Alike k row xs ys
+    → (column : ℕ) → column < columnsD k → sumAt (fedAll (openedRun k signs mode c) xs) row column ≡ sumAt (fedAll (openedRun k signs mode c′) ys) row column
+own-row k signs mode c c′ o o′ row hr same xs ys a b h column hc =
+    sum-is k signs mode c o row column hr hc xs a
+    ∙ ap₂ (λ (w : ℕ) (zs : List ℤ). int32 (fedCell (limit k mode) w zs)) (same column hc) (same-adds k signs mode row column hc xs ys h)
+    ∙ sym (sum-is k signs mode c′ o′ row column hr hc ys b)

@@ -1,0 +1,40 @@
+-- Demand 3: blocks fed one after the other, and what they add at a place. Assumes nothing.
+use Prim.Native.Nat.{ℕ}
+use mathlib.Core.Path.{_≡_}
+use mathlib.Core.List.{List, [], _∷_}
+use lib.IntN.{ℤ}
+use lib.ListN.{length}
+use Rattle.laws.specs.Integers.{int32}
+use Rattle.kinds.specs.Refusals.{given, after}
+use Rattle.step.specs.Step.{entryIn, added}
+use Rattle.run.specs.declared.Run.{Run}
+use Rattle.run.specs.Runs.{usedOf, fedRun}
+use Rattle.run.specs.Answers.{feedAnswer}
+
+-- a block: an A and a B buffer
+pub record Block : Type 0 where
+  pub a : List ℕ
+  pub b : List ℕ
+
+-- the run that a feed hands back
+abbrev pub fedBy : Run → Block → Run
+fedBy run x = after (feedAnswer run (length (x .a)) (length (x .b))) (fedRun run (x .a) (x .b)) run
+
+-- the run after blocks, fed one after the other
+unfoldable pub fedAll : Run → List Block → Run
+fedAll run [] = run
+fedAll run (x ∷ xs) = fedAll (fedBy run x) xs
+
+-- every one of them accepted
+unfoldable pub AllAccepted : Run → List Block → Type 0
+AllAccepted run [] = Unit {0}
+AllAccepted run (x ∷ xs) = (feedAnswer run (length (x .a)) (length (x .b)) ≡ given tt) × AllAccepted (fedBy run x) xs
+
+-- what each block adds at a place: the exact products, or the bit count
+unfoldable pub contributions : (kind signs mode row column : ℕ) → List Block → List ℤ
+contributions kind signs mode row column [] = []
+contributions kind signs mode row column (x ∷ xs) = added kind signs mode (x .a) (x .b) row column ∷ contributions kind signs mode row column xs
+
+-- the sum that a run holds at a place of D, as a signed number
+unfoldable pub sumAt : Run → (row column : ℕ) → ℤ
+sumAt run row column = int32 (entryIn (run .kind .0) 2 (usedOf run) row column)

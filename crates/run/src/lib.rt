@@ -1,0 +1,210 @@
+// Runs of steps: opened from a C buffer, fed blocks of A and B, read into a D buffer. A run goes in and comes back by value.
+ghost use mathlib.Core.Path.{_≡_};
+ghost use Prim.Native.Nat.{_<_};
+ghost use lib.ListN.{length};
+ghost use Rattle.laws.specs.Choice.{if_then_else_};
+ghost use Rattle.kinds.specs.Refusals.{told, after, given, refusal};
+ghost use Rattle.warp.specs.Answers.{wordsNeeded};
+ghost use Rattle.step.specs.Answers.{Ready};
+ghost use Rattle.run.specs.Runs.{openedRun, zeroRun, usedOf, fedRun};
+ghost use Rattle.run.specs.Answers.{maxBlocks, noRun, openAnswer, feedAnswer, readAnswer};
+use kinds::Kind;
+use kinds::Refusal;
+use kinds::Role;
+use kinds::Verdict;
+use step::Mode;
+use step::Signs;
+
+pub struct Run {
+    pub kind: Kind,
+    pub signs: Signs,
+    pub mode: Mode,
+    pub blocks: u32,
+    pub sums: [u32; 128],
+}
+
+// A run handed back with the answer of the call.
+pub struct Fed {
+    pub run: Run,
+    pub verdict: Verdict,
+}
+
+// Every word of one buffer into another of its length.
+fn copy(from: &[u32], to: &mut [u32])
+    requires { ⌜ length (now from) ≡ length (now to) ⌝ }
+    ensures { λ _. ⌜ now (to .exit) ≡ now (from .entry) ⌝ }
+{
+    let mut i = 0;
+    while i < from.len() {
+        to[i] = from[i];
+        i += 1;
+    }
+}
+
+impl Run {
+    pub const MAX_BLOCKS: u32 = 4096;
+
+    // A run whose sums are C's words, where C was judged.
+    fn opened(kind: Kind, signs: Signs, mode: Mode, c: &[u32]) -> Run
+        requires { ⌜ Ready (kind .0) (signs .0) (mode .0) × (length (now c) ≡ wordsNeeded (kind .0) 2) ⌝ }
+        ensures { λ r. ⌜ r ≡ openedRun (kind .0) (signs .0) (mode .0) (now (c .entry)) ⌝ }
+    {
+        let n = c.len();
+        let mut sums: [u32; 128] = [0; 128];
+        copy(c, &mut sums[..n]);
+        Run {
+            kind,
+            signs,
+            mode,
+            blocks: 0,
+            sums,
+        }
+    }
+
+    // Refusals 1, 3, 4 and 5 of an opening.
+    fn judge_open(kind: Kind, signs: Signs, mode: Mode, c: usize) -> Verdict
+        ensures { λ r. ⌜ told r ≡ openAnswer (kind .0) (signs .0) (mode .0) c ⌝ }
+    {
+        let verdict = step::judge(kind, signs, mode);
+        let Verdict::Accepted = verdict else {
+            return verdict;
+        };
+        if c != step::needed(kind, Role(Role::C)) {
+            return Verdict::Refused(Refusal::WrongLength(0));
+        }
+        verdict
+    }
+
+    // A run whose sums are C's words.
+    pub fn open(kind: Kind, signs: Signs, mode: Mode, c: &[u32]) -> Fed
+        ensures { λ r. ⌜ told (r .verdict) ≡ openAnswer (kind .0) (signs .0) (mode .0) (length (now (c .entry))) ⌝ }
+        ensures { λ r. ⌜ r .run ≡ after (told (r .verdict)) (openedRun (kind .0) (signs .0) (mode .0) (now (c .entry))) zeroRun ⌝ }
+    {
+        let verdict = Run::judge_open(kind, signs, mode, c.len());
+        match verdict {
+            Verdict::Accepted => Fed {
+                run: Run::opened(kind, signs, mode, c),
+                verdict,
+            },
+            Verdict::Refused(_) => Fed {
+                run: Run {
+                    kind: Kind(0),
+                    signs: Signs(0),
+                    mode: Mode(0),
+                    blocks: 0,
+                    sums: [0; 128],
+                },
+                verdict,
+            },
+        }
+    }
+
+    // Refusal 10.
+    fn judge(self) -> Verdict
+        ensures { λ r. ⌜ told r ≡ (if noRun self then refusal 10 0 else given tt) ⌝ }
+    {
+        let kind = self.kind;
+        let signs = self.signs;
+        let mode = self.mode;
+        let verdict = step::judge(kind, signs, mode);
+        let Verdict::Accepted = verdict else {
+            return Verdict::Refused(Refusal::BadRun);
+        };
+        if Run::MAX_BLOCKS < self.blocks {
+            return Verdict::Refused(Refusal::BadRun);
+        }
+        verdict
+    }
+
+    // Refusals 10, 9 and 5 of a feed.
+    fn judge_feed(self, a: usize, b: usize) -> Verdict
+        ensures { λ r. ⌜ told r ≡ feedAnswer self a b ⌝ }
+    {
+        let kind = self.kind;
+        let verdict = self.judge();
+        let Verdict::Accepted = verdict else {
+            return verdict;
+        };
+        if Run::MAX_BLOCKS <= self.blocks {
+            return Verdict::Refused(Refusal::RunFull);
+        }
+        if a != step::needed(kind, Role(Role::A)) {
+            return Verdict::Refused(Refusal::WrongLength(0));
+        }
+        if b != step::needed(kind, Role(Role::B)) {
+            return Verdict::Refused(Refusal::WrongLength(1));
+        }
+        verdict
+    }
+
+    // The run with one block more, where the block was judged.
+    fn fed(self, a: &[u32], b: &[u32]) -> Run
+        requires { ⌜ Ready (self .kind .0) (self .signs .0) (self .mode .0) × (self .blocks < maxBlocks) ⌝ }
+        requires { ⌜ (length (now a) ≡ wordsNeeded (self .kind .0) 0) × (length (now b) ≡ wordsNeeded (self .kind .0) 1) ⌝ }
+        ensures { λ r. ⌜ r ≡ fedRun self (now (a .entry)) (now (b .entry)) ⌝ }
+    {
+        let kind = self.kind;
+        let signs = self.signs;
+        let mode = self.mode;
+        let blocks = self.blocks + 1;
+        // The old sums are C. D starts from them too, so that the unused ones stay.
+        let sums = self.sums;
+        let c = sums;
+        let mut d = sums;
+        let n = step::needed(kind, Role(Role::C));
+        step::work(kind, signs, mode, a, b, &c[..n], &mut d[..n]);
+        Run {
+            kind,
+            signs,
+            mode,
+            blocks,
+            sums: d,
+        }
+    }
+
+    // The run with one block more.
+    pub fn feed(self, a: &[u32], b: &[u32]) -> Fed
+        ensures { λ r. ⌜ told (r .verdict) ≡ feedAnswer self (length (now (a .entry))) (length (now (b .entry))) ⌝ }
+        ensures { λ r. ⌜ r .run ≡ after (told (r .verdict)) (fedRun self (now (a .entry)) (now (b .entry))) self ⌝ }
+    {
+        let verdict = self.judge_feed(a.len(), b.len());
+        match verdict {
+            Verdict::Accepted => Fed {
+                run: self.fed(a, b),
+                verdict,
+            },
+            Verdict::Refused(_) => Fed { run: self, verdict },
+        }
+    }
+
+    // Refusals 10 and 5 of a read.
+    fn judge_read(self, d: usize) -> Verdict
+        ensures { λ r. ⌜ told r ≡ readAnswer self d ⌝ }
+    {
+        let kind = self.kind;
+        let verdict = self.judge();
+        let Verdict::Accepted = verdict else {
+            return verdict;
+        };
+        if d != step::needed(kind, Role(Role::C)) {
+            return Verdict::Refused(Refusal::WrongLength(0));
+        }
+        verdict
+    }
+
+    // The used sums, into D; the run is as it was.
+    pub fn read(self, d: &mut [u32]) -> Fed
+        ensures { λ r. ⌜ told (r .verdict) ≡ readAnswer self (length (now (d .entry))) ⌝ }
+        ensures { λ r. ⌜ now (d .exit) ≡ after (told (r .verdict)) (usedOf self) (now (d .entry)) ⌝ }
+        ensures { λ r. ⌜ r .run ≡ self ⌝ }
+    {
+        let n = d.len();
+        let verdict = self.judge_read(n);
+        let Verdict::Accepted = verdict else {
+            return Fed { run: self, verdict };
+        };
+        let sums = self.sums;
+        copy(&sums[..n], d);
+        Fed { run: self, verdict }
+    }
+}
