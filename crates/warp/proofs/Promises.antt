@@ -1,25 +1,25 @@
--- What document 01 and demand 2 promise of unpacking and packing, a sentence above its statement. Assumes nothing.
+-- What document 01 and demand 2 promise of unpacking, packing and template records, a sentence above its statement. Assumes nothing.
 use mathlib.Core.Path.{_≡_, sym, ap, ap₂, _∙_, subst}
 use mathlib.Core.List.{List}
 use mathlib.Core.Bool.{not}
-use Prim.Native.Nat.{ℕ, _<_}
+use Prim.Native.Nat.{ℕ, _+_, _*_, _<_}
 use native.Mathlib.Omega.{arith}
 use borrow.Author.Tests.{eqb-true, ltb-false, not-false}
 use lib.ListN.{length, getD}
 use Rattle.laws.specs.Choice.{_<?_, _=?_}
 use Rattle.kinds.specs.Kinds.{lanes, entryOf, roleOf, rows, columns, bits, words}
 use Rattle.kinds.specs.Rule.{Laid, elementsOf, rowsOf, columnsOf, placeIn, holderOf}
-use Rattle.kinds.specs.Refusals.{Answer, given, told, after}
+use Rattle.kinds.specs.Refusals.{given}
 use Rattle.kinds.specs.Answers.{placeAnswer}
 use Rattle.kinds.specs.declared.Layout.{Layout}
-use Rattle.kinds.specs.declared.Verdict.{Verdict}
 use Rattle.kinds.proofs.Table.{Legal, layoutAt, sane, rows-are, columns-are, bits-are, words-are}
 use Rattle.kinds.proofs.Judged.{passed, judged-given}
 use Rattle.kinds.proofs.Answers.{place-is, placed-inside, rule-placed, place-legal}
-use Rattle.kinds.proofs.Promises.{one-verdict}
 use Rattle.warp.specs.Buffers.{elementAt, elementIn, index, unpackedOf, packedOf}
 use Rattle.warp.specs.Answers.{wordsNeeded, entriesNeeded, firstWide, Fitting, unpackAnswer, packAnswer}
+use Rattle.warp.specs.Templates.{templateKind, templateRole, templateWords, templateRecord}
 use Rattle.warp.proofs.Answers.{words-needed, entries-needed, first-fits, first-le}
+use Rattle.warp.proofs.Records.{template-legal, template-laid}
 use Rattle.warp.proofs.Round as round
 
 -- An accepted call had a legal kind and role and the lengths that they need, and a matrix to be packed had entries that fit.
@@ -138,6 +138,26 @@ own-row k r ok ws ws′ row hr same column hc =
     = sym (place-is k r ok l i) ∙ rule-placed f l i (round.lane-in f o row column hr′ hc′) (round.element-in f o row column hr′ hc′) ∙ ap given (round.place-back f o row column hr′ hc′) in
     unpacked-at k r ws l i (row, column) e ∙ same l i column e ∙ sym (unpacked-at k r ws′ l i (row, column) e)
 
--- No second answer: two verdicts, with what stands in the buffer on return, that meet the contract for the same inputs are equal.
-pub one-unpacking : (a b : Verdict) (q : Answer (Unit {0})) (new old x y : List ℕ) → told a ≡ q → told b ≡ q → x ≡ after (told a) new old → y ≡ after (told b) new old → (a ≡ b) × (x ≡ y)
-one-unpacking a b q new old x y p r ex ey = (one-verdict a b q p r, ex ∙ ap (λ (t : Answer (Unit {0})). after t new old) (p ∙ sym r) ∙ sym ey)
+-- 'A record is read into lane words and written back without loss': for every record of 256 bytes,
+pub record-back : (bytes : List ℕ) → length bytes ≡ 256 → Fitting 8 bytes → templateRecord (templateWords bytes) ≡ bytes
+record-back bytes n fit = round.pack-unpack (layoutAt templateKind templateRole) template-laid bytes fit n
+
+-- and for every 64 words of 32 bits.
+pub words-back : (ws : List ℕ) → length ws ≡ 64 → Fitting 32 ws → templateWords (templateRecord ws) ≡ ws
+words-back = unpack-pack templateKind templateRole template-legal
+
+-- 'B of kind 3, row-major': the words that were read, unpacked as B of kind 3, give the record's bytes,
+pub record-is-matrix : (bytes : List ℕ) → length bytes ≡ 256 → Fitting 8 bytes → unpackedOf 3 1 (templateWords bytes) ≡ bytes
+record-is-matrix = record-back
+
+-- 'row k column c at byte 8k + c': the element of the words read whose place is row k, column c is that byte,
+pub read-at : (bytes : List ℕ) → length bytes ≡ 256 → Fitting 8 bytes → (lane i k c : ℕ) → placeAnswer 3 1 lane i ≡ given (k, c)
+    → elementIn 3 1 (templateWords bytes) lane i ≡ getD bytes (8 * k + c) 0
+read-at bytes n fit lane i k c e =
+    let p = placed 3 1 lane i (k, c) e in
+    round.packed-at (layoutAt 3 1) template-laid bytes fit n lane i (p .0) (p .1)
+    ∙ ap (λ (z : ℕ). getD bytes z 0) (ap (index 8) (sym (p .2)) ∙ omega arith)
+
+-- and the byte of the record written is that element of the words.
+pub written-at : (ws : List ℕ) (lane i k c : ℕ) → placeAnswer 3 1 lane i ≡ given (k, c) → getD (templateRecord ws) (8 * k + c) 0 ≡ elementIn 3 1 ws lane i
+written-at ws lane i k c e = ap (λ (z : ℕ). getD (templateRecord ws) z 0) (omega arith) ∙ unpacked-at 3 1 ws lane i (k, c) e

@@ -9,6 +9,9 @@ ghost use Rattle.kinds.specs.Rule.{Width, Sane, Laid, shape, turn, major, minor
 ghost use Rattle.kinds.specs.Refusals.{told, after};
 ghost use Rattle.warp.specs.Buffers.{index, stepOf, elementAt, entryAt, unpacked, unpackedOf, Matrix, wordAt, packed, packedOf};
 ghost use Rattle.warp.specs.Answers.{unpackBy, unpackAnswer, Fitting, firstWide, packBy, packAnswer};
+
+pub mod template;
+
 use kinds::Kind;
 use kinds::Known;
 use kinds::Lane;

@@ -1,0 +1,313 @@
+// Words of a fixed pattern are unpacked and packed again, for every kind and role, and written to a template record and read back; then the
+// same with lengths, kinds, roles and entries that are refused. A line each, for an operator to read.
+use kinds::Kind;
+use kinds::Refusal;
+use kinds::Role;
+use kinds::Verdict;
+
+// The largest prime below 2^32: sums are taken modulo it.
+const PRIME: u64 = 4294967291;
+
+fn main() {
+    arithmetic_kinds();
+    other_kinds();
+    template(64, 256);
+    refusals();
+    wide_entries();
+    template_refusals();
+}
+
+fn arithmetic_kinds() {
+    round(1, 0, 32, 1024);
+    round(1, 1, 32, 1024);
+    round(1, 2, 64, 64);
+    round(2, 0, 64, 256);
+    round(2, 1, 32, 128);
+    round(2, 2, 128, 128);
+    round(3, 0, 128, 512);
+    round(3, 1, 64, 256);
+    round(3, 2, 128, 128);
+    round(4, 0, 64, 512);
+    round(4, 1, 32, 256);
+    round(4, 2, 128, 128);
+    round(5, 0, 128, 1024);
+    round(5, 1, 64, 512);
+    round(5, 2, 128, 128);
+}
+
+fn other_kinds() {
+    round(6, 0, 64, 128);
+    round(6, 1, 32, 64);
+    round(6, 2, 128, 128);
+    round(7, 0, 64, 128);
+    round(7, 1, 32, 64);
+    round(7, 2, 64, 128);
+    round(8, 0, 128, 128);
+    round(8, 1, 64, 64);
+    round(8, 2, 128, 128);
+    round(9, 0, 256, 128);
+    round(9, 1, 128, 64);
+    round(9, 2, 256, 128);
+    round(10, 0, 64, 32);
+    round(10, 1, 64, 32);
+    round(10, 2, 128, 64);
+}
+
+fn refusals() {
+    round(0, 0, 128, 512);
+    trial(11, 3, 127, 511, 256, 5, 6);
+    trial(4294967295, 0, 128, 512, 256, 5, 6);
+    trial(3, 3, 127, 511, 256, 5, 6);
+    round(3, 0, 127, 512);
+    round(3, 0, 129, 512);
+    round(3, 0, 128, 511);
+    round(3, 0, 128, 513);
+    round(3, 0, 127, 511);
+    trial(3, 0, 127, 512, 256, 5, 6);
+    trial(3, 0, 128, 511, 256, 5, 6);
+    round(9, 2, 0, 0);
+}
+
+fn wide_entries() {
+    trial(1, 0, 32, 1024, 2, 3, 1000);
+    trial(1, 1, 32, 1024, 2, 1023, 1023);
+    trial(4, 0, 64, 512, 16, 511, 510);
+    trial(3, 0, 128, 512, 256, 300, 5);
+    trial(6, 1, 32, 64, 65536, 0, 63);
+    trial(7, 2, 64, 128, 65536, 127, 126);
+    trial(8, 0, 128, 128, 4294967296, 64, 65);
+    trial(6, 2, 128, 128, 18446744073709551615, 9, 8);
+}
+
+fn template_refusals() {
+    template(63, 256);
+    template(65, 256);
+    template(64, 255);
+    template(64, 257);
+    template(63, 255);
+}
+
+fn round(kind: u32, role: u32, n: usize, entries: usize) {
+    trial(kind, role, n, entries, 0, 0, 0);
+}
+
+// A kind and a role with so many words and entries; before packing, x is put at i and j, or nothing where x is 0.
+fn trial(kind: u32, role: u32, n: usize, entries: usize, x: u64, i: usize, j: usize) {
+    let mut words: [u32; 256] = [0; 256];
+    let mut matrix: [u64; 1024] = [0; 1024];
+    trial_cut(kind, role, n, entries, x, i, j, &mut words, &mut matrix);
+}
+
+// The first n words and the first so many entries.
+fn trial_cut(
+    kind: u32,
+    role: u32,
+    n: usize,
+    entries: usize,
+    x: u64,
+    i: usize,
+    j: usize,
+    words: &mut [u32],
+    matrix: &mut [u64],
+) {
+    if words.len() < n {
+        return;
+    }
+    if matrix.len() < entries {
+        return;
+    }
+    trial_in(
+        kind,
+        role,
+        x,
+        i,
+        j,
+        &mut words[0..n],
+        &mut matrix[0..entries],
+    );
+}
+
+fn trial_in(
+    kind: u32,
+    role: u32,
+    x: u64,
+    i: usize,
+    j: usize,
+    words: &mut [u32],
+    matrix: &mut [u64],
+) {
+    number(b"kind ", kind as u64);
+    number(b" role ", role as u64);
+    lengths(words.len(), b" words, ", matrix.len(), b" entries");
+    there(kind, role, words, matrix);
+    spoil(matrix, x, i, j);
+    back(kind, role, matrix, words);
+}
+
+fn there(kind: u32, role: u32, words: &mut [u32], matrix: &mut [u64]) {
+    make(words, kind, role);
+    tell(
+        b": unpack ",
+        warp::unpack(Kind(kind), Role(role), words, matrix),
+    );
+    number(b", sum ", sum(matrix));
+}
+
+fn back(kind: u32, role: u32, matrix: &[u64], words: &mut [u32]) {
+    make(words, 0, 0);
+    let v = warp::pack(Kind(kind), Role(role), matrix, words);
+    tell(b", pack ", v);
+    tell_words(v, words, kind, role);
+}
+
+// The same with a template record of so many bytes.
+fn template(n: usize, bytes: usize) {
+    let mut words: [u32; 256] = [0; 256];
+    let mut record: [u8; 512] = [0; 512];
+    template_cut(n, bytes, &mut words, &mut record);
+}
+
+fn template_cut(n: usize, bytes: usize, words: &mut [u32], record: &mut [u8]) {
+    if words.len() < n {
+        return;
+    }
+    if record.len() < bytes {
+        return;
+    }
+    template_in(&mut words[0..n], &mut record[0..bytes]);
+}
+
+fn template_in(words: &mut [u32], record: &mut [u8]) {
+    text(b"template");
+    lengths(words.len(), b" words, ", record.len(), b" bytes");
+    make(words, 3, 1);
+    tell(b": write ", warp::template::write(words, record));
+    number(b", sum ", sum_bytes(record));
+    make(words, 0, 0);
+    let v = warp::template::read(record, words);
+    tell(b", read ", v);
+    tell_words(v, words, 3, 1);
+}
+
+// Where the call was accepted the words should be those of the kind and the role again, and otherwise those that stood there.
+fn tell_words(v: Verdict, words: &[u32], kind: u32, role: u32) {
+    match v {
+        Verdict::Accepted => {
+            number(b", ", differ(words, kind, role));
+            text(b" words differ\n");
+        }
+        Verdict::Refused(_) => {
+            number(b", ", differ(words, 0, 0));
+            text(b" words changed\n");
+        }
+    }
+}
+
+fn spoil(matrix: &mut [u64], x: u64, i: usize, j: usize) {
+    if x == 0 {
+        return;
+    }
+    number(b", ", x);
+    number(b" at ", i as u64);
+    number(b" and ", j as u64);
+    put(matrix, i, x);
+    put(matrix, j, x);
+}
+
+fn put(matrix: &mut [u64], i: usize, x: u64) {
+    if i < matrix.len() {
+        matrix[i] = x;
+    }
+}
+
+// The pattern: word j is kind + j (2654435761 + role), modulo 2^32.
+fn make(words: &mut [u32], kind: u32, role: u32) {
+    let step = std::num::wrapping_add_u32(2654435761, role);
+    let mut x = kind;
+    let mut j = 0;
+    while j < words.len() {
+        words[j] = x;
+        x = std::num::wrapping_add_u32(x, step);
+        j += 1;
+    }
+}
+
+// How many words are not the pattern's.
+fn differ(words: &[u32], kind: u32, role: u32) -> u64 {
+    let step = std::num::wrapping_add_u32(2654435761, role);
+    let mut x = kind;
+    let mut n: u64 = 0;
+    let mut j = 0;
+    while j < words.len() {
+        if words[j] != x {
+            n += 1;
+        }
+        x = std::num::wrapping_add_u32(x, step);
+        j += 1;
+    }
+    n
+}
+
+// The entries as digits to the base 65599, modulo PRIME: every entry counts, and its index.
+fn sum(matrix: &[u64]) -> u64 {
+    let mut s: u64 = 0;
+    let mut i = 0;
+    while i < matrix.len() {
+        s = digit(s, matrix[i]);
+        i += 1;
+    }
+    s
+}
+
+fn sum_bytes(record: &[u8]) -> u64 {
+    let mut s: u64 = 0;
+    let mut i = 0;
+    while i < record.len() {
+        s = digit(s, wide(record[i]));
+        i += 1;
+    }
+    s
+}
+
+fn digit(s: u64, x: u64) -> u64 {
+    (s % PRIME * 65599 + x % PRIME) % PRIME
+}
+
+fn wide(x: u8) -> u64 {
+    x as u64
+}
+
+fn lengths(n: usize, words: &[u8], m: usize, other: &[u8]) {
+    number(b", ", n as u64);
+    text(words);
+    io::print_decimal(1, m as u64);
+    text(other);
+}
+
+fn tell(call: &[u8], v: Verdict) {
+    text(call);
+    match v {
+        Verdict::Accepted => text(b"accepted"),
+        Verdict::Refused(x) => {
+            number(b"refused ", x.number() as u64);
+            number(b" ", detail(x));
+        }
+    }
+}
+
+fn detail(x: Refusal) -> u64 {
+    match x {
+        Refusal::WrongLength(buffer) => buffer as u64,
+        Refusal::TooWide(index) => index as u64,
+        _ => 0,
+    }
+}
+
+fn number(before: &[u8], n: u64) {
+    text(before);
+    io::print_decimal(1, n);
+}
+
+fn text(t: &[u8]) {
+    io::write_all(1, t);
+}
