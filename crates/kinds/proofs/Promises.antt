@@ -100,6 +100,18 @@ one-holder a b k r x y = one-answer toldHolder heldOf held-back a b (findAnswer 
 pub one-verdict : (a b : Verdict) (q : Answer (Unit {0})) → told a ≡ q → told b ≡ q → a ≡ b
 one-verdict = one-answer told verdictOf verdict-back
 
--- with what stands in a buffer, or a run, on return
-pub one-written : {B : Type 0} (a b : Verdict) (q : Answer (Unit {0})) (new old x y : B) → told a ≡ q → told b ≡ q → x ≡ after (told a) new old → y ≡ after (told b) new old → (a ≡ b) × (x ≡ y)
-one-written a b q new old x y p r ex ey = (one-verdict a b q p r, ex ∙ ap (λ (t : Answer (Unit {0})). after t new old) (p ∙ sym r) ∙ sym ey)
+-- and with what stands in a buffer, or a run, on return. Every call but place and the reverse question is promised in this form: its answer is
+-- q; it leaves new where it accepts, and old, which it was given, where it refuses.
+module _ {B : Type 0} (q : Answer (Unit {0})) (new old : B) where
+  pub record Meets (verdict : Verdict) (out : B) : Type 0 where
+    pub verdict-is : told verdict ≡ q
+    pub out-is : out ≡ after (told verdict) new old
+
+  abbrev pub Only : Type 0
+  Only = (a b : Verdict) (x y : B) → Meets a x → Meets b y → (a ≡ b) × (x ≡ y)
+
+  pub only : Only
+  only a b x y m n = (
+    one-verdict a b q (m .verdict-is) (n .verdict-is),
+    m .out-is ∙ ap (λ (t : Answer (Unit {0})). after t new old) (m .verdict-is ∙ sym (n .verdict-is)) ∙ sym (n .out-is),
+  )

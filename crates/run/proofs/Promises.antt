@@ -4,27 +4,28 @@ use mathlib.Core.Path.{_≡_, refl, sym, ap, ap₂, subst, _∙_}
 use mathlib.Core.Bool.{Bool, true, false}
 use mathlib.Core.Logic.{_⊎_, inl, inr}
 use mathlib.Core.List.{List, [], _∷_, List·Permᴰ}
-use Prim.Native.Nat.{ℕ, zero, suc, _+_, _*_, _^_, _<_, _≤_}
+use Prim.Native.Nat.{ℕ, _+_, _^_, _<_, _≤_}
 use native.Mathlib.Omega.{arith}
 use borrow.Author.Tests.{eq-eqb, ne-eqb, le-leb, le-ltb}
 use lib.IntN.{ℤ, _+ℤ_}
 use lib.ListN.{length, take, drop}
 use lib.Seq.{take-at}
-use Rattle.laws.specs.Choice.{if_then_else_, _=?_, _≤?_}
+use Rattle.laws.specs.Choice.{if_then_else_, _=?_}
 use Rattle.laws.specs.Integers.{int32, clamp}
 use Rattle.laws.specs.Totals.{total, wrappedBy, clampedBy, clampedEach, NoneNegative, NonePositive, Wraps}
 use Rattle.laws.proofs.Totals.{fed-wraps, fed-up, fed-down, fed-clamped}
-use Rattle.kinds.specs.Refusals.{Answer, given, refusal, after}
+use Rattle.kinds.specs.Refusals.{given, refusal}
+use Rattle.kinds.proofs.Promises.{Only, only}
 use Rattle.warp.specs.Answers.{wordsNeeded}
-use Rattle.step.specs.Step.{entryIn, depth, added, limit}
+use Rattle.step.specs.Step.{entryIn, depth, limit}
 use Rattle.step.specs.Answers.{Ready}
 use Rattle.step.proofs.Accepted.{selectors-ok}
-use Rattle.step.proofs.Matrices.{legal, entry-lt}
+use Rattle.step.proofs.Matrices.{entry-lt}
 use Rattle.step.proofs.Promises.{rowsD, columnsD, same-added}
 use Rattle.run.specs.declared.Run.{Run}
-use Rattle.run.specs.Runs.{runOf, zeros, withUsed, usedOf, openedRun, fedRun}
-use Rattle.run.specs.Answers.{openAnswer, feedAnswer}
-use Rattle.run.specs.Blocks.{Block, fedBy, fedAll, AllAccepted, contributions, sumAt}
+use Rattle.run.specs.Runs.{runOf, zeros, withUsed, usedOf, openedRun, zeroRun, fedRun}
+use Rattle.run.specs.Answers.{openAnswer, feedAnswer, readAnswer}
+use Rattle.run.specs.Blocks.{Block, fedAll, AllAccepted, contributions, sumAt}
 use Rattle.run.proofs.Laws.{open-accepted}
 use Rattle.run.proofs.Demand.{fedCell, wraps-each, clamps-each, fed-at, fed-kept, accepted-order, added-perm}
 
@@ -147,3 +148,13 @@ own-row k signs mode c c′ o o′ row hr same xs ys a b h column hc =
     sum-is k signs mode c o row column hr hc xs a
     ∙ ap₂ (λ (w : ℕ) (zs : List ℤ). int32 (fedCell (limit k mode) w zs)) (same column hc) (same-adds k signs mode row column hc xs ys h)
     ∙ sym (sum-is k signs mode c′ o′ row column hr hc ys b)
+
+-- 'Show that no second answer satisfies it', a call at a time; the run that read hands back is the one it was given.
+pub one-open : (k signs mode : ℕ) (c : List ℕ) → Only (openAnswer k signs mode (length c)) (openedRun k signs mode c) zeroRun
+one-open k signs mode c = only _ _ _
+
+pub one-feed : (run : Run) (a b : List ℕ) → Only (feedAnswer run (length a) (length b)) (fedRun run a b) run
+one-feed run a b = only _ _ _
+
+pub one-read : (run : Run) (d : List ℕ) → Only (readAnswer run (length d)) (usedOf run) d
+one-read run d = only _ _ _

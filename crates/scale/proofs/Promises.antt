@@ -1,5 +1,5 @@
 -- What document 01 promises of scale bytes, a sentence above its statement. Assumes nothing.
-use mathlib.Core.Path.{_≡_, refl, sym, ap, subst, _∙_}
+use mathlib.Core.Path.{_≡_, refl, sym, ap, subst}
 use mathlib.Core.Bool.{true}
 use mathlib.Core.List.{List, [], _∷_, map}
 use Prim.Native.Nat.{ℕ, _+_, _<_}
@@ -8,9 +8,8 @@ use lib.ListN.{length, getD, take}
 use Rattle.laws.specs.Lists.{tab}
 use Rattle.laws.proofs.Lists.{length-tab, getD-tab}
 use Rattle.kinds.specs.Kinds.{lanes}
-use Rattle.kinds.specs.Refusals.{told, after, refusal}
-use Rattle.kinds.specs.declared.Verdict.{Verdict}
-use Rattle.kinds.proofs.Promises.{one-verdict}
+use Rattle.kinds.specs.Refusals.{refusal}
+use Rattle.kinds.proofs.Promises.{Only, only}
 use Rattle.scale.specs.Bytes.{legalThreadId, takes, chosenLanes, byteOf, chosenBytes, exponent, scaled, outputLength}
 use Rattle.scale.specs.Answers.{scaleAnswer}
 use Rattle.scale.proofs.Laws.{same-bytes, scaled-length}
@@ -35,17 +34,10 @@ chosen-only size side byteId threadId m n h =
 pub output-length : (size side byteId threadId : ℕ) (m : List ℕ) → legalThreadId side threadId ≡ true → length (scaled size side byteId threadId m) ≡ outputLength size side
 output-length = scaled-length
 
--- 'Show that no second answer satisfies it': two verdicts with their outputs that meet the contract for the same inputs are equal.
-module _ (size side byteId threadId : ℕ) (metadata : List ℕ) (old : List ℤ) where
-  -- what the contract says of a verdict and the output after the call
-  pub record Meets (verdict : Verdict) (out : List ℤ) : Type 0 where
-    pub verdict-is : told verdict ≡ scaleAnswer size side byteId threadId (length metadata) (length old)
-    pub output-is : out ≡ after (told verdict) (scaled size side byteId threadId metadata) old
-
-  pub one-scale : (a b : Verdict) (x y : List ℤ) → Meets a x → Meets b y → (a ≡ b) × (x ≡ y)
-  one-scale a b x y p q =
-      let e = one-verdict a b _ (p .verdict-is) (q .verdict-is) in
-      (e, p .output-is ∙ ap (λ (v : Verdict). after (told v) (scaled size side byteId threadId metadata) old) e ∙ sym (q .output-is))
+-- 'Show that no second answer satisfies it'.
+pub one-scale : (size side byteId threadId : ℕ) (metadata : List ℕ) (old : List ℤ)
+    → Only (scaleAnswer size side byteId threadId (length metadata) (length old)) (scaled size side byteId threadId metadata) old
+one-scale size side byteId threadId metadata old = only _ _ _
 
 -- Bench figures: metadata word 807F0100 (hexadecimal), size 1, byte-id 0 to 3: -127, -126, 0, 1. Size 2, byte-id 2: 0, 1. Size 2,
 -- byte-id 1: refusal 8, detail 2. What lane 0 gives stands first, and every lane holds the word.

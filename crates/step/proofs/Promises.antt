@@ -4,6 +4,7 @@ use mathlib.Core.List.{List}
 use Prim.Native.Nat.{ℕ, _^_, _<_, _≤_}
 use native.Mathlib.Omega.{arith}
 use lib.IntN.{ℤ, pos, negsuc, _+ℤ_, _*ℤ_}
+use lib.ListN.{length}
 use Rattle.laws.specs.Choice.{if_then_else_}
 use Rattle.laws.specs.Bits.{combine, onesIn}
 use Rattle.laws.specs.Integers.{value, int32, clamp}
@@ -14,8 +15,9 @@ use Rattle.laws.proofs.Totals.{clamp-word}
 use Rattle.kinds.specs.Kinds.{entryOf, roleOf, rows, columns}
 use Rattle.kinds.specs.Refusals.{given}
 use Rattle.kinds.proofs.Table.{rows-are, columns-are}
+use Rattle.kinds.proofs.Promises.{Only, only}
 use Rattle.step.specs.Step.{entryIn, depth, half, unsignedA, unsignedB, products, combinedBits, oneBit, added, limit, cellOf, resultAt, stepped}
-use Rattle.step.specs.Answers.{Ready, stepAnswer}
+use Rattle.step.specs.Answers.{Ready, stepAnswer, plainAnswer}
 use Rattle.step.proofs.Accepted.{step-accepted}
 use Rattle.step.proofs.Matrices.{legal, entry-D}
 
@@ -80,3 +82,10 @@ module _ (k signs mode row : ℕ) (a a′ b b′ c c′ : List ℕ)
       result-at k signs mode ok a b c row column hr hc
       ∙ ap₂ (cellOf (limit k mode)) (same-c column hc) (same-added column hc)
       ∙ sym (result-at k signs mode ok a′ b′ c′ row column hr hc)
+
+-- 'Show that no second answer satisfies it', a call at a time.
+pub one-step : (k signs mode : ℕ) (a b c d : List ℕ) → Only (stepAnswer k signs mode (length a) (length b) (length c) (length d)) (stepped k signs mode a b c) d
+one-step k signs mode a b c d = only _ _ _
+
+pub one-plain-step : (k : ℕ) (a b c d : List ℕ) → Only (plainAnswer k (length a) (length b) (length c) (length d)) (stepped k 0 0 a b c) d
+one-plain-step k a b c d = only _ _ _

@@ -15,9 +15,10 @@ use Rattle.kinds.specs.declared.Layout.{Layout}
 use Rattle.kinds.proofs.Table.{Legal, layoutAt, sane, rows-are, columns-are, bits-are, words-are}
 use Rattle.kinds.proofs.Judged.{passed, judged-given}
 use Rattle.kinds.proofs.Answers.{place-is, placed-inside, rule-placed, place-legal}
+use Rattle.kinds.proofs.Promises.{Only, only}
 use Rattle.warp.specs.Buffers.{elementAt, elementIn, index, unpackedOf, packedOf}
 use Rattle.warp.specs.Answers.{wordsNeeded, entriesNeeded, firstWide, Fitting, unpackAnswer, packAnswer}
-use Rattle.warp.specs.Templates.{templateKind, templateRole, templateWords, templateRecord}
+use Rattle.warp.specs.Templates.{templateKind, templateRole, templateWords, templateRecord, readAnswer, writeAnswer}
 use Rattle.warp.proofs.Answers.{words-needed, entries-needed, first-fits, first-le}
 use Rattle.warp.proofs.Records.{template-legal, template-laid}
 use Rattle.warp.proofs.Round as round
@@ -161,3 +162,16 @@ read-at bytes n fit lane i k c e =
 -- and the byte of the record written is that element of the words.
 pub written-at : (ws : List ℕ) (lane i k c : ℕ) → placeAnswer 3 1 lane i ≡ given (k, c) → getD (templateRecord ws) (8 * k + c) 0 ≡ elementIn 3 1 ws lane i
 written-at ws lane i k c e = ap (λ (z : ℕ). getD (templateRecord ws) z 0) (omega arith) ∙ unpacked-at 3 1 ws lane i (k, c) e
+
+-- 'Show that no second answer satisfies it', a call at a time.
+pub one-unpack : (k r : ℕ) (ws m : List ℕ) → Only (unpackAnswer k r (length ws) (length m)) (unpackedOf k r ws) m
+one-unpack k r ws m = only _ _ _
+
+pub one-pack : (k r : ℕ) (m ws : List ℕ) → Only (packAnswer k r m (length ws)) (packedOf k r m) ws
+one-pack k r m ws = only _ _ _
+
+pub one-record-read : (bytes ws : List ℕ) → Only (readAnswer (length bytes) (length ws)) (templateWords bytes) ws
+one-record-read bytes ws = only _ _ _
+
+pub one-record-written : (ws bytes : List ℕ) → Only (writeAnswer (length ws) (length bytes)) (templateRecord ws) bytes
+one-record-written ws bytes = only _ _ _
