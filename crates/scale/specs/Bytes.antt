@@ -44,7 +44,7 @@ abbrev pub byteOf : (word b : ℕ) → ℕ
 byteOf word b = word / 2 ^ (8 * b) % 256
 
 -- From each chosen lane come the `size` bytes starting at byte-id, low first.
-abbrev pub bytesFrom : (size byteId : ℕ) → List ℕ → (lanes : List ℕ) → List ℕ
+abbrev pub bytesFrom : (size byteId : ℕ) → List ℕ → (chosen : List ℕ) → List ℕ
 bytesFrom size byteId metadata [] = []
 bytesFrom size byteId metadata (lane ∷ rest) = tab size (λ j. byteOf (getD metadata lane 0) (byteId + j)) ++ bytesFrom size byteId metadata rest
 

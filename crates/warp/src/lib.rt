@@ -37,7 +37,7 @@ fn field_of(word: u64, bits: usize, j: usize) -> u64
 }
 
 // Element i of a lane with so many words.
-pub fn element(words: &[u32], bits: usize, each: usize, lane: usize, i: usize) -> u64
+fn element(words: &[u32], bits: usize, each: usize, lane: usize, i: usize) -> u64
     requires { ⌜ Width bits × (each ≤ 8) × (lane < lanes) × (bits * (i + 1) ≤ 32 * each) × (length (now words) ≡ lanes * each) ⌝ }
     ensures { λ r. ⌜ r ≡ elementAt bits each (now (words .entry)) lane i ⌝ }
 {
