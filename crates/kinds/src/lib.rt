@@ -3,7 +3,7 @@ ghost use mathlib.Core.Path.{_≡_};
 ghost use Prim.Native.Nat.{_*_, _<_, _≤_};
 ghost use Rattle.kinds.specs.Kinds.{kinds, entryOf, roleOf, lanes};
 ghost use Rattle.kinds.specs.Rule.{spread, sideOf, layoutOf, elementsOf, majors, minors, Laid, major, minor, laneOf, elementOf};
-ghost use Rattle.kinds.specs.Refusals.{numberOf};
+ghost use Rattle.kinds.specs.Refusals.{numberOf, detailOf};
 ghost use Rattle.kinds.specs.Answers.{toldLayout, toldPlace, toldHolder, layoutAnswer, placeAnswer, placeBy, findAnswer, findBy};
 
 // Every number that could be taken for another has its own type. Any u32 may stand in it: what is out of range is refused.
@@ -49,7 +49,7 @@ pub enum Refusal {
     BadSelectors,
     WrongLength(u32),
     Outside,
-    TooWide(usize),
+    TooWide(u32),
     BadScale(u32),
     RunFull,
     BadRun,
@@ -71,6 +71,24 @@ impl Refusal {
             Refusal::BadScale(_) => 8,
             Refusal::RunFull => 9,
             Refusal::BadRun => 10,
+        }
+    }
+
+    // Its detail: which buffer, which entry, which selector.
+    pub fn detail(self) -> u32
+        ensures { λ r. ⌜ r ≡ detailOf self ⌝ }
+    {
+        match self {
+            Refusal::UnknownKind => 0,
+            Refusal::UnknownRole => 0,
+            Refusal::NotArithmetic => 0,
+            Refusal::BadSelectors => 0,
+            Refusal::WrongLength(buffer) => buffer,
+            Refusal::Outside => 0,
+            Refusal::TooWide(index) => index,
+            Refusal::BadScale(selector) => selector,
+            Refusal::RunFull => 0,
+            Refusal::BadRun => 0,
         }
     }
 }

@@ -30,7 +30,7 @@ pub struct Fed {
 }
 
 // Every word of one buffer into another of its length.
-fn copy(from: &[u32], to: &mut [u32])
+pub fn copy(from: &[u32], to: &mut [u32])
     requires { ⌜ length (now from) ≡ length (now to) ⌝ }
     ensures { λ _. ⌜ now (to .exit) ≡ now (from .entry) ⌝ }
 {

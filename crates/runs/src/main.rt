@@ -1,6 +1,5 @@
 // Shows runs: document 01's figures over 4,096 blocks, a clamped run in two orders, a run made up by hand, and each refusal.
 use kinds::Kind;
-use kinds::Refusal;
 use kinds::Verdict;
 use run::Run;
 use step::Mode;
@@ -45,13 +44,6 @@ fn print_word(w: u32) {
     }
 }
 
-fn detail(refusal: Refusal) -> u32 {
-    match refusal {
-        Refusal::WrongLength(buffer) => buffer,
-        _ => 0,
-    }
-}
-
 fn print_verdict(verdict: Verdict) {
     match verdict {
         Verdict::Accepted => print_text(b"accepted"),
@@ -59,7 +51,7 @@ fn print_verdict(verdict: Verdict) {
             print_text(b"refused ");
             print_number(refusal.number());
             print_text(b" ");
-            print_number(detail(refusal));
+            print_number(refusal.detail());
         }
     }
 }

@@ -1,5 +1,4 @@
 // Shows what `scale` answers: the figures of document 01, whole outputs of each side and size, and each refusal.
-use kinds::Refusal;
 use kinds::Verdict;
 use scale::ByteId;
 use scale::Side;
@@ -76,14 +75,6 @@ fn print_all(out: &[i32]) {
     }
 }
 
-fn detail(refusal: Refusal) -> u32 {
-    match refusal {
-        Refusal::WrongLength(buffer) => buffer,
-        Refusal::BadScale(selector) => selector,
-        _ => 0,
-    }
-}
-
 fn print_side(side: Side) {
     let s = side.0;
     if s == Side::A {
@@ -130,7 +121,7 @@ fn show(
             print_text(b" refused ");
             print_number(refusal.number());
             print_text(b" ");
-            print_number(detail(refusal));
+            print_number(refusal.detail());
         }
     }
     print_text(b"\n");

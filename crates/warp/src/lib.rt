@@ -501,7 +501,7 @@ fn pack_in(f: Layout, matrix: &[u64], words: &mut [u32]) -> Verdict
     }
     let wide = first_wide(matrix, bits);
     if wide < matrix.len() {
-        return Verdict::Refused(Refusal::TooWide(wide));
+        return Verdict::Refused(Refusal::TooWide(wide as u32));
     }
     fill_words_by_width(matrix, words, f);
     Verdict::Accepted

@@ -1,7 +1,6 @@
 // Words of a fixed pattern are unpacked and packed again, for every kind and role, and written to a template record and read back; then the
 // same with lengths, kinds, roles and entries that are refused. A line each, for an operator to read.
 use kinds::Kind;
-use kinds::Refusal;
 use kinds::Role;
 use kinds::Verdict;
 
@@ -290,16 +289,8 @@ fn tell(call: &[u8], v: Verdict) {
         Verdict::Accepted => text(b"accepted"),
         Verdict::Refused(x) => {
             number(b"refused ", x.number() as u64);
-            number(b" ", detail(x));
+            number(b" ", x.detail() as u64);
         }
-    }
-}
-
-fn detail(x: Refusal) -> u64 {
-    match x {
-        Refusal::WrongLength(buffer) => buffer as u64,
-        Refusal::TooWide(index) => index as u64,
-        _ => 0,
     }
 }
 

@@ -40,6 +40,13 @@ returns-2 c = (simp (eq-eqb _ _ (c .before .if1 .left ∙ size (c .before .befor
 first-wide-requires : tie.Need-first-wide-requires
 first-wide-requires c κs = let s = c .before .before .before .before .before .before in (s .pre .width .pos, s .pre .width .le)
 
+-- an index of a matrix is small
+cast-t14 : tie.Need-cast-t14
+cast-t14 c =
+    let w = c .before in
+    let t = w .before .before .before in
+    record { fits = omega (arith, mul-le-mul (t .before .rows-in .ensures .1) (t .columns-in .ensures .1), w .before .before .if1 .left, c .if3 .taken) }
+
 returns-3 : tie.Need-returns-3
 unfolding packBy
 returns-3 c =
@@ -84,6 +91,7 @@ pack-in-spec =
     mul-if2
     returns-2
     first-wide-requires
+    cast-t14
     returns-3
     fill-words-by-width-requires
     same-length

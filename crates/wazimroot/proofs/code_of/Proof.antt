@@ -1,0 +1,26 @@
+-- A refusal has its own code. Assumes nothing.
+use borrow.Author.Needs.{needs}
+use mathlib.Core.Path.{sym, ap, _∙_}
+use Rattle.kinds.specs.Refusals.{told}
+use Rattle.kinds.specs.declared.Verdict.{Verdict}
+use Rattle.wazimroot.specs.Codes.{codeOf}
+use Rattle.wazimroot.proofs.code_of.Statement.{statement}
+use Rattle.wazimroot.proofs.code_of.Tie as tie
+
+enum-told : tie.Need-enum-told
+enum-told c = search needs
+
+enum-known-verdict : tie.Need-enum-known-verdict
+enum-known-verdict c = search needs
+
+code-requires : tie.Need-code-requires
+code-requires c κs = search needs
+
+returns : tie.Need-returns
+returns c = search needs
+
+returns-2 : tie.Need-returns-2
+returns-2 c = c .code .ensures ∙ sym (ap (λ (v : Verdict). codeOf (told v)) (c .before .before .verdict .given .1))
+
+pub code-of-spec : {M : Type 1} → statement M
+code-of-spec = tie.close (tie.spec enum-told enum-known-verdict code-requires returns returns-2)

@@ -1,0 +1,32 @@
+-- The answer was given, and its two numbers are written, or refused, and nothing is. Assumes nothing.
+use borrow.Author.Needs.{needs}
+use mathlib.Core.Path.{sym, ap, _∙_}
+use Rattle.kinds.specs.Answers.{toldHolder}
+use Rattle.wazimroot.proofs.Laws.{pair-given, pair-refused}
+use Rattle.wazimroot.proofs.wz_find.Statement.{statement}
+use Rattle.wazimroot.proofs.wz_find.Tie as tie
+
+find-requires : tie.Need-find-requires
+find-requires c κs = search needs
+
+enum-known-lane : tie.Need-enum-known-lane
+enum-known-lane c = search needs
+
+put-pair-requires : tie.Need-put-pair-requires
+put-pair-requires c κs = search needs
+
+enum-known-refusal : tie.Need-enum-known-refusal
+enum-known-refusal c = search needs
+
+code-requires : tie.Need-code-requires
+code-requires c κs = search needs
+
+returns : tie.Need-returns
+returns c = pair-given _ (sym (c .before .before .before .before .before .find .ensures) ∙ ap toldHolder (c .before .before .before .lane .given .1)) (c .put-pair .ensures)
+
+returns-2 : tie.Need-returns-2
+returns-2 c = pair-refused _ (sym (c .before .before .before .before .find .ensures) ∙ ap toldHolder (c .before .before .refusal .given .1)) (c .code .ensures)
+
+pub wz-find-spec : {M : Type 1} → statement M
+wz-find-spec =
+    tie.close (tie.spec find-requires enum-known-lane put-pair-requires enum-known-refusal code-requires returns returns-2)

@@ -1,0 +1,24 @@
+-- The run's words are those of the run that was opened, or of the zero run. Assumes nothing.
+use borrow.Author.Needs.{needs}
+use mathlib.Core.Path.{ap, _∙_}
+use Rattle.wazimroot.specs.Words.{wordsOf}
+use Rattle.wazimroot.proofs.Laws.{told-code, told-left}
+use Rattle.wazimroot.proofs.wz_open.Statement.{statement}
+use Rattle.wazimroot.proofs.wz_open.Tie as tie
+
+open-requires : tie.Need-open-requires
+open-requires c κs = search needs
+
+put-requires : tie.Need-put-requires
+put-requires c κs = search needs
+
+code-of-requires : tie.Need-code-of-requires
+code-of-requires c κs = search needs
+
+returns : tie.Need-returns
+returns c =
+    let o = c .before .before .before .before .«open» .ensures in
+    (told-code (o .0) (c .code-of .ensures), c .before .put .ensures ∙ ap wordsOf (told-left (o .0) _ _ (o .1)))
+
+pub wz-open-spec : {M : Type 1} → statement M
+wz-open-spec = tie.close (tie.spec open-requires put-requires code-of-requires returns)

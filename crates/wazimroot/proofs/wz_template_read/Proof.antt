@@ -1,0 +1,22 @@
+-- The code is that of the verdict, and the verdict is the answer. Assumes nothing.
+use borrow.Author.Needs.{needs}
+use Rattle.wazimroot.proofs.Laws.{told-code, told-left}
+use Rattle.wazimroot.proofs.wz_template_read.Statement.{statement}
+use Rattle.wazimroot.proofs.wz_template_read.Tie as tie
+
+read-requires : tie.Need-read-requires
+read-requires c κs = search needs
+
+code-of-requires : tie.Need-code-of-requires
+code-of-requires c κs = search needs
+
+same-length : tie.Need-same-length
+same-length c = search needs
+
+returns : tie.Need-returns
+returns c =
+    let u = c .before .before .before .read .ensures in
+    (told-code (u .0) (c .code-of .ensures), told-left (u .0) _ _ (u .1))
+
+pub wz-template-read-spec : {M : Type 1} → statement M
+wz-template-read-spec = tie.close (tie.spec read-requires code-of-requires same-length returns)

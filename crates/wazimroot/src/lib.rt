@@ -1,0 +1,258 @@
+// The C interface: each public call of the bench under a plain name, its answer as one word. include/wazimroot.h says how it is called.
+ghost use mathlib.Core.Path.{_≡_};
+ghost use Prim.Native.Nat.{_+_, _*_, _^_};
+ghost use mathlib.Core.List.{[], _∷_};
+ghost use lib.ListN.{length, drop};
+ghost use Rattle.kinds.specs.Refusals.{numberOf, detailOf, told, after};
+ghost use Rattle.kinds.specs.Answers.{placeAnswer, findAnswer};
+ghost use Rattle.warp.specs.Buffers.{unpackedOf, packedOf};
+ghost use Rattle.warp.specs.Answers.{unpackAnswer, packAnswer};
+ghost use Rattle.warp.specs.Templates.{templateWords, templateRecord, readAnswer as recordReadAnswer, writeAnswer as recordWriteAnswer};
+ghost use Rattle.step.specs.Step.{stepped};
+ghost use Rattle.step.specs.Answers.{stepAnswer, plainAnswer};
+ghost use Rattle.run.specs.Runs.{openedRun, zeroRun, fedRun, usedOf};
+ghost use Rattle.run.specs.Answers.{openAnswer, feedAnswer, readAnswer};
+ghost use Rattle.scale.specs.Bytes.{scaled};
+ghost use Rattle.scale.specs.Answers.{scaleAnswer};
+ghost use Rattle.wazimroot.specs.Codes.{codeOf, pairAfter};
+ghost use Rattle.wazimroot.specs.Words.{runIn, wordsOf};
+use kinds::Column;
+use kinds::Element;
+use kinds::Held;
+use kinds::Kind;
+use kinds::Lane;
+use kinds::Placed;
+use kinds::Refusal;
+use kinds::Role;
+use kinds::Row;
+use kinds::Verdict;
+use run::Run;
+use scale::ByteId;
+use scale::Side;
+use scale::Size;
+use scale::ThreadId;
+use step::Mode;
+use step::Signs;
+
+// A refusal's number, and its detail in the high half.
+fn code(refusal: Refusal) -> u64
+    ensures { λ r. ⌜ r ≡ numberOf refusal + detailOf refusal * 2 ^ 32 ⌝ }
+{
+    refusal.number() as u64 + refusal.detail() as u64 * 4294967296
+}
+
+fn code_of(verdict: Verdict) -> u64
+    ensures { λ r. ⌜ r ≡ codeOf (told verdict) ⌝ }
+{
+    match verdict {
+        Verdict::Accepted => 0,
+        Verdict::Refused(refusal) => code(refusal),
+    }
+}
+
+fn put_pair(out: &mut [u32], first: u32, second: u32)
+    requires { ⌜ length (now out) ≡ 2 ⌝ }
+    ensures { λ _. ⌜ now (out .exit) ≡ first ∷ second ∷ [] ⌝ }
+{
+    out[0] = first;
+    out[1] = second;
+}
+
+// Row and column of an element.
+#[no_mangle]
+pub extern "C" fn wz_place(kind: u32, role: u32, lane: u32, element: u32, out: &mut [u32; 2]) -> u64
+    ensures { λ r. ⌜ r ≡ codeOf (placeAnswer kind role lane element) ⌝ }
+    ensures { λ _. ⌜ now (out .exit) ≡ pairAfter (placeAnswer kind role lane element) (now (out .entry)) ⌝ }
+{
+    match kinds::place(Kind(kind), Role(role), Lane(lane), Element(element)) {
+        Placed::At(row, column) => {
+            put_pair(out, row.0, column.0);
+            0
+        }
+        Placed::Refused(refusal) => code(refusal),
+    }
+}
+
+// Lane and element of a place.
+#[no_mangle]
+pub extern "C" fn wz_find(kind: u32, role: u32, row: u32, column: u32, out: &mut [u32; 2]) -> u64
+    ensures { λ r. ⌜ r ≡ codeOf (findAnswer kind role row column) ⌝ }
+    ensures { λ _. ⌜ now (out .exit) ≡ pairAfter (findAnswer kind role row column) (now (out .entry)) ⌝ }
+{
+    match kinds::find(Kind(kind), Role(role), Row(row), Column(column)) {
+        Held::By(lane, element) => {
+            put_pair(out, lane.0, element.0);
+            0
+        }
+        Held::Refused(refusal) => code(refusal),
+    }
+}
+
+// Lane words to a matrix.
+#[no_mangle]
+pub extern "C" fn wz_unpack(kind: u32, role: u32, words: &[u32], matrix: &mut [u64]) -> u64
+    ensures { λ r. ⌜ r ≡ codeOf (unpackAnswer kind role (length (now (words .entry))) (length (now (matrix .entry)))) ⌝ }
+    ensures { λ _. ⌜ now (matrix .exit) ≡ after (unpackAnswer kind role (length (now (words .entry))) (length (now (matrix .entry)))) (unpackedOf kind role (now (words .entry))) (now (matrix .entry)) ⌝ }
+{
+    code_of(warp::unpack(Kind(kind), Role(role), words, matrix))
+}
+
+// A matrix to lane words.
+#[no_mangle]
+pub extern "C" fn wz_pack(kind: u32, role: u32, matrix: &[u64], words: &mut [u32]) -> u64
+    ensures { λ r. ⌜ r ≡ codeOf (packAnswer kind role (now (matrix .entry)) (length (now (words .entry)))) ⌝ }
+    ensures { λ _. ⌜ now (words .exit) ≡ after (packAnswer kind role (now (matrix .entry)) (length (now (words .entry)))) (packedOf kind role (now (matrix .entry))) (now (words .entry)) ⌝ }
+{
+    code_of(warp::pack(Kind(kind), Role(role), matrix, words))
+}
+
+// One step.
+#[no_mangle]
+pub extern "C" fn wz_step(
+    kind: u32,
+    signs: u32,
+    mode: u32,
+    a: &[u32],
+    b: &[u32],
+    c: &[u32],
+    d: &mut [u32],
+) -> u64
+    ensures { λ r. ⌜ r ≡ codeOf (stepAnswer kind signs mode (length (now (a .entry))) (length (now (b .entry))) (length (now (c .entry))) (length (now (d .entry)))) ⌝ }
+    ensures { λ _. ⌜ now (d .exit) ≡ after (stepAnswer kind signs mode (length (now (a .entry))) (length (now (b .entry))) (length (now (c .entry))) (length (now (d .entry)))) (stepped kind signs mode (now (a .entry)) (now (b .entry)) (now (c .entry))) (now (d .entry)) ⌝ }
+{
+    code_of(step::step(Kind(kind), Signs(signs), Mode(mode), a, b, c, d))
+}
+
+// One step with no selectors.
+#[no_mangle]
+pub extern "C" fn wz_plain_step(kind: u32, a: &[u32], b: &[u32], c: &[u32], d: &mut [u32]) -> u64
+    ensures { λ r. ⌜ r ≡ codeOf (plainAnswer kind (length (now (a .entry))) (length (now (b .entry))) (length (now (c .entry))) (length (now (d .entry)))) ⌝ }
+    ensures { λ _. ⌜ now (d .exit) ≡ after (plainAnswer kind (length (now (a .entry))) (length (now (b .entry))) (length (now (c .entry))) (length (now (d .entry)))) (stepped kind 0 0 (now (a .entry)) (now (b .entry)) (now (c .entry))) (now (d .entry)) ⌝ }
+{
+    code_of(step::plain_step(Kind(kind), a, b, c, d))
+}
+
+// A run out of its words.
+fn taken(words: &[u32]) -> Run
+    requires { ⌜ length (now words) ≡ 132 ⌝ }
+    ensures { λ r. ⌜ r ≡ runIn (now (words .entry)) ⌝ }
+{
+    let mut sums: [u32; 128] = [0; 128];
+    run::copy(&words[4..132], &mut sums);
+    Run {
+        kind: Kind(words[0]),
+        signs: Signs(words[1]),
+        mode: Mode(words[2]),
+        blocks: words[3],
+        sums,
+    }
+}
+
+// A run's first four words.
+fn put_head(run: Run, words: &mut [u32])
+    requires { ⌜ length (now words) ≡ 132 ⌝ }
+    ensures { λ _. ⌜ now (words .exit) ≡ run .kind .0 ∷ run .signs .0 ∷ run .mode .0 ∷ run .blocks ∷ drop 4 (now (words .entry)) ⌝ }
+{
+    words[0] = run.kind.0;
+    words[1] = run.signs.0;
+    words[2] = run.mode.0;
+    words[3] = run.blocks;
+}
+
+// A run into its words.
+fn put(run: Run, words: &mut [u32])
+    requires { ⌜ length (now words) ≡ 132 ⌝ }
+    ensures { λ _. ⌜ now (words .exit) ≡ wordsOf run ⌝ }
+{
+    let sums = run.sums;
+    run::copy(&sums, &mut words[4..132]);
+    put_head(run, words);
+}
+
+// A newly opened run.
+#[no_mangle]
+pub extern "C" fn wz_open(
+    kind: u32,
+    signs: u32,
+    mode: u32,
+    c: &[u32],
+    words: &mut [u32; 132],
+) -> u64
+    ensures { λ r. ⌜ r ≡ codeOf (openAnswer kind signs mode (length (now (c .entry)))) ⌝ }
+    ensures { λ _. ⌜ now (words .exit) ≡ wordsOf (after (openAnswer kind signs mode (length (now (c .entry)))) (openedRun kind signs mode (now (c .entry))) zeroRun) ⌝ }
+{
+    let opened = Run::open(Kind(kind), Signs(signs), Mode(mode), c);
+    let run = opened.run;
+    let verdict = opened.verdict;
+    put(run, words);
+    code_of(verdict)
+}
+
+// The run with one block more.
+#[no_mangle]
+pub extern "C" fn wz_feed(words: &mut [u32; 132], a: &[u32], b: &[u32]) -> u64
+    ensures { λ r. ⌜ r ≡ codeOf (feedAnswer (runIn (now (words .entry))) (length (now (a .entry))) (length (now (b .entry)))) ⌝ }
+    ensures { λ _. ⌜ now (words .exit) ≡ after (feedAnswer (runIn (now (words .entry))) (length (now (a .entry))) (length (now (b .entry)))) (wordsOf (fedRun (runIn (now (words .entry))) (now (a .entry)) (now (b .entry)))) (now (words .entry)) ⌝ }
+{
+    let fed = taken(words).feed(a, b);
+    let run = fed.run;
+    let verdict = fed.verdict;
+    match verdict {
+        Verdict::Accepted => {
+            put(run, words);
+            0
+        }
+        Verdict::Refused(refusal) => code(refusal),
+    }
+}
+
+// The used sums.
+#[no_mangle]
+pub extern "C" fn wz_read(words: &[u32; 132], d: &mut [u32]) -> u64
+    ensures { λ r. ⌜ r ≡ codeOf (readAnswer (runIn (now (words .entry))) (length (now (d .entry)))) ⌝ }
+    ensures { λ _. ⌜ now (d .exit) ≡ after (readAnswer (runIn (now (words .entry))) (length (now (d .entry)))) (usedOf (runIn (now (words .entry)))) (now (d .entry)) ⌝ }
+{
+    let verdict = taken(words).read(d).verdict;
+    code_of(verdict)
+}
+
+// The exponents of the chosen bytes.
+#[no_mangle]
+pub extern "C" fn wz_scale(
+    size: u32,
+    side: u32,
+    byte_id: u32,
+    thread_id: u32,
+    metadata: &[u32],
+    out: &mut [i32],
+) -> u64
+    ensures { λ r. ⌜ r ≡ codeOf (scaleAnswer size side «byte_id» «thread_id» (length (now (metadata .entry))) (length (now (out .entry)))) ⌝ }
+    ensures { λ _. ⌜ now (out .exit) ≡ after (scaleAnswer size side «byte_id» «thread_id» (length (now (metadata .entry))) (length (now (out .entry)))) (scaled size side «byte_id» «thread_id» (now (metadata .entry))) (now (out .entry)) ⌝ }
+{
+    code_of(scale::scale(
+        Size(size),
+        Side(side),
+        ByteId(byte_id),
+        ThreadId(thread_id),
+        metadata,
+        out,
+    ))
+}
+
+// A template record to its lane words.
+#[no_mangle]
+pub extern "C" fn wz_template_read(record: &[u8], words: &mut [u32]) -> u64
+    ensures { λ r. ⌜ r ≡ codeOf (recordReadAnswer (length (now («record» .entry))) (length (now (words .entry)))) ⌝ }
+    ensures { λ _. ⌜ now (words .exit) ≡ after (recordReadAnswer (length (now («record» .entry))) (length (now (words .entry)))) (templateWords (now («record» .entry))) (now (words .entry)) ⌝ }
+{
+    code_of(warp::template::read(record, words))
+}
+
+// Lane words to their template record.
+#[no_mangle]
+pub extern "C" fn wz_template_write(words: &[u32], record: &mut [u8]) -> u64
+    ensures { λ r. ⌜ r ≡ codeOf (recordWriteAnswer (length (now (words .entry))) (length (now («record» .entry)))) ⌝ }
+    ensures { λ _. ⌜ now («record» .exit) ≡ after (recordWriteAnswer (length (now (words .entry))) (length (now («record» .entry)))) (templateRecord (now (words .entry))) (now («record» .entry)) ⌝ }
+{
+    code_of(warp::template::write(words, record))
+}
