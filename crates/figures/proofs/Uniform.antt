@@ -23,7 +23,7 @@ use Rattle.kinds.specs.Rule.{elementsOf, rowsOf, columnsOf, holderOf}
 use Rattle.kinds.specs.declared.Layout.{Layout}
 use Rattle.kinds.proofs.Table.{Legal, layoutAt, sane, rows-are, columns-are, words-are}
 use Rattle.warp.specs.Buffers.{laneNumber, elementAt}
-use Rattle.warp.specs.Answers.{wordsNeeded}
+use Rattle.warp.specs.Buffers.{wordsNeeded}
 use Rattle.warp.proofs.Round as round
 use Rattle.step.specs.Step.{entryIn, depth, half, unsignedA, unsignedB, products, oneBit, combinedBits, added, limit, cellOf, resultAt}
 use Rattle.step.specs.Answers.{stepAnswer}

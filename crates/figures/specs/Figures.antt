@@ -9,7 +9,7 @@ use Rattle.laws.specs.Lists.{tab}
 use Rattle.kinds.specs.Kinds.{entryOf, roleOf, rows, columns}
 use Rattle.kinds.specs.Refusals.{given}
 use Rattle.kinds.specs.Answers.{placeAnswer, findAnswer}
-use Rattle.warp.specs.Answers.{wordsNeeded}
+use Rattle.warp.specs.Buffers.{wordsNeeded}
 use Rattle.step.specs.Step.{entryIn, stepped}
 use Rattle.step.specs.Answers.{stepAnswer}
 

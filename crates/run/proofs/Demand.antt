@@ -15,8 +15,8 @@ use Rattle.laws.specs.Totals.{total, wrappedBy, clampedBy, clampedEach, NoneNeg
 use Rattle.laws.proofs.Totals.{fed-wraps, fed-up, fed-down, fed-clamped}
 use Rattle.kinds.specs.Refusals.{Answer, given, refusal, after}
 use Rattle.kinds.proofs.Table.{layoutAt, sane}
-use Rattle.warp.specs.Answers.{wordsNeeded}
-use Rattle.warp.proofs.Answers.{words-needed}
+use Rattle.warp.specs.Buffers.{wordsNeeded}
+use Rattle.warp.proofs.Placed.{words-needed}
 use Rattle.warp.proofs.Round as round
 use Rattle.step.specs.Step.{entryIn, added, limit, cellOf, resultAt, results, stepped}
 use Rattle.step.specs.Answers.{Ready, noSelectors}

@@ -18,7 +18,7 @@ use Rattle.kinds.specs.declared.Verdict.{Verdict}
 use Rattle.kinds.specs.declared.Verdict.the-variants.{Accepted, Refused}
 use Rattle.kinds.proofs.Table.{line}
 use Rattle.kinds.proofs.Judged.{never, passed, carried}
-use Rattle.warp.specs.Answers.{wordsNeeded}
+use Rattle.warp.specs.Buffers.{wordsNeeded}
 use Rattle.step.specs.Step.{stepped}
 use Rattle.step.specs.Answers.{noArithmetic, noSelectors, selected, Ready}
 use Rattle.step.proofs.Accepted.{selected-given, selected-is}

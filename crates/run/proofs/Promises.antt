@@ -16,7 +16,7 @@ use Rattle.laws.specs.Totals.{total, wrappedBy, clampedBy, clampedEach, NoneNeg
 use Rattle.laws.proofs.Totals.{fed-wraps, fed-up, fed-down, fed-clamped}
 use Rattle.kinds.specs.Refusals.{given, refusal}
 use Rattle.kinds.proofs.Promises.{Only, only}
-use Rattle.warp.specs.Answers.{wordsNeeded}
+use Rattle.warp.specs.Buffers.{wordsNeeded}
 use Rattle.step.specs.Step.{entryIn, depth, limit}
 use Rattle.step.specs.Answers.{Ready}
 use Rattle.step.proofs.Accepted.{selectors-ok}

@@ -9,7 +9,7 @@ use Rattle.laws.proofs.Choice.{and-true, and-on, and-off, or-false}
 use Rattle.kinds.specs.Kinds.{kinds}
 use Rattle.kinds.specs.Refusals.{Answer, given, refusal, noKind}
 use Rattle.kinds.proofs.Judged.{never, passed, carried}
-use Rattle.warp.specs.Answers.{wordsNeeded}
+use Rattle.warp.specs.Buffers.{wordsNeeded}
 use Rattle.step.specs.Step.{oneBit}
 use Rattle.step.specs.Answers.{noArithmetic, noSelectors, selected, fourBuffers, stepAnswer, plainAnswer, Ready, Sized}
 

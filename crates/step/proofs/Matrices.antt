@@ -22,7 +22,7 @@ use Rattle.kinds.specs.declared.Entry.{Entry}
 use Rattle.kinds.specs.declared.Layout.{Layout}
 use Rattle.kinds.proofs.Table.{Legal, line, layoutAt, sane, rows-are, columns-are}
 use Rattle.warp.specs.Buffers.{index, laneNumber, elementAt, entryAt, unpackedOf, wordAt, packed}
-use Rattle.warp.specs.Answers.{Fitting}
+use Rattle.warp.specs.Buffers.{Fitting}
 use Rattle.warp.proofs.Places.{place-in}
 use Rattle.warp.proofs.Round as round
 use Rattle.step.specs.Step.{entryIn, depth, limit, added, cellOf, resultAt, results, stepped}

@@ -4,7 +4,7 @@ use mathlib.Core.Path.{_≡_}
 use mathlib.Core.Bool.{Bool, not, _&&_, _||_}
 use Rattle.laws.specs.Choice.{if_then_else_, _<?_, _≤?_, _=?_}
 use Rattle.kinds.specs.Refusals.{Answer, given, refusal, noKind}
-use Rattle.warp.specs.Answers.{wordsNeeded}
+use Rattle.warp.specs.Buffers.{wordsNeeded}
 use Rattle.step.specs.Step.{oneBit}
 
 -- 3: kinds 6 to 10

@@ -4,7 +4,7 @@ ghost use Prim.Native.Nat.{_-_, _^_, _<_, _≤_};
 ghost use lib.ListN.{length};
 ghost use Rattle.kinds.specs.Kinds.{kinds};
 ghost use Rattle.kinds.specs.Refusals.{told, after, given};
-ghost use Rattle.warp.specs.Answers.{wordsNeeded};
+ghost use Rattle.warp.specs.Buffers.{wordsNeeded};
 ghost use Rattle.step.specs.Step.{unsignedA, unsignedB, stepped};
 ghost use Rattle.step.specs.Answers.{selected, fourBuffers, stepAnswer, plainAnswer, Ready, Sized};
 ghost use Rattle.step.specs.Sums.{offsetOf};
@@ -122,7 +122,7 @@ fn count(kind: Kind, mode: Mode, a: &[u32], b: &[u32], c: &[u32], d: &mut [u32])
     let f = Layout::of(kind, Role(Role::A));
     let g = Layout::of(kind, Role(Role::B));
     let h = Layout::of(kind, Role(Role::C));
-    ones::cells(mode.0, f.words, f.halves, g.words, h.words, a, b, c, d);
+    ones::cells_by_shape(mode.0, f.words, f.halves, g.words, h.words, a, b, c, d);
 }
 
 // The words of D, for numbers and lengths that were judged: the worker of a step and of a run's feed.

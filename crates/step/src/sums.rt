@@ -94,7 +94,7 @@ fn digits_row(
 {
     let size: u64 = 1 << bits;
     for y in 0..n {
-        let e = warp::entry_at(words, bits, each, side, halves, spans, x, y);
+        let e = unpack::entry_at(words, bits, each, side, halves, spans, x, y);
         out[x * n + y] = ((e + offset) % size) as u8;
     }
 }

@@ -1,6 +1,4 @@
 pub mod Elements
 pub mod Places
-pub mod Answers
 pub mod Round
-pub mod Records
-pub mod Promises
+pub mod Placed

@@ -17,8 +17,7 @@ use Rattle.kinds.specs.Rule.{Laid, elementsOf, majors, minors, rowsOf, columnsO
 use Rattle.kinds.specs.declared.Layout.{Layout}
 use Rattle.kinds.proofs.Digits.{lane-back, element-back, major-back, minor-back, lane-lt, element-lt, major-lt, minor-lt}
 use Rattle.kinds.proofs.Answers.{turn-turn}
-use Rattle.warp.specs.Buffers.{laneNumber, elementAt, index, entryAt, unpacked, wordAt, packed}
-use Rattle.warp.specs.Answers.{Fitting}
+use Rattle.warp.specs.Buffers.{laneNumber, elementAt, index, entryAt, unpacked, wordAt, packed, Fitting}
 use Rattle.warp.proofs.Elements.{turned-in}
 use Rattle.warp.proofs.Places.{place-in, columns-pos}
 

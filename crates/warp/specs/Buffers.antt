@@ -1,12 +1,12 @@
 -- Document 01, 'Kinds': what stands in a warp buffer and in a matrix buffer. Assumes nothing.
-use Prim.Native.Nat.{ℕ, _+_, _*_}
+use Prim.Native.Nat.{ℕ, _+_, _*_, _^_, _<_}
 use mathlib.Core.Path.{_≡_}
 use mathlib.Core.Bool.{Bool, true, false}
 use mathlib.Core.List.{List}
 use lib.ListN.{length, getD}
 use Rattle.laws.specs.Fields.{field, joined}
 use Rattle.laws.specs.Lists.{tab, blocks}
-use Rattle.kinds.specs.Kinds.{lanes, wordBits, entryOf, roleOf, bits, words}
+use Rattle.kinds.specs.Kinds.{lanes, wordBits, entryOf, roleOf, rows, columns, bits, words}
 use Rattle.kinds.specs.Rule.{layoutOf, elementsOf, rowsOf, columnsOf, placeIn, holderOf}
 use Rattle.kinds.specs.declared.Layout.{Layout}
 
@@ -26,6 +26,10 @@ index columns x = x .0 * columns + x .1
 abbrev pub stepOf : (turned : Bool) → (columns : ℕ) → ℕ
 stepOf false columns = 1
 stepOf true columns = columns
+
+-- every entry fits so many bits
+abbrev pub Fitting : (bits : ℕ) → List ℕ → Type 0
+Fitting b m = (x : ℕ) → x < length m → getD m x 0 < 2 ^ b
 
 -- Unpacking: the entry at a row and a column is the element whose place it is.
 unfoldable pub entryAt : Layout → List ℕ → (row column : ℕ) → ℕ
@@ -55,3 +59,10 @@ unpackedOf k r ws = unpacked (layoutOf (entryOf k) (roleOf r)) ws
 
 abbrev pub packedOf : (kind role : ℕ) → List ℕ → List ℕ
 packedOf k r m = packed (layoutOf (entryOf k) (roleOf r)) m
+
+-- the lengths that a kind and a role need
+abbrev pub wordsNeeded : (kind role : ℕ) → ℕ
+wordsNeeded k r = lanes * words (entryOf k) (roleOf r)
+
+abbrev pub entriesNeeded : (kind role : ℕ) → ℕ
+entriesNeeded k r = rows (entryOf k) (roleOf r) * columns (entryOf k) (roleOf r)

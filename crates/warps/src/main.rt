@@ -147,14 +147,14 @@ fn there(kind: u32, role: u32, words: &mut [u32], matrix: &mut [u64]) {
     make(words, kind, role);
     tell(
         b": unpack ",
-        warp::unpack(Kind(kind), Role(role), words, matrix),
+        unpack::unpack(Kind(kind), Role(role), words, matrix),
     );
     number(b", sum ", sum(matrix));
 }
 
 fn back(kind: u32, role: u32, matrix: &[u64], words: &mut [u32]) {
     make(words, 0, 0);
-    let v = warp::pack(Kind(kind), Role(role), matrix, words);
+    let v = pack::pack(Kind(kind), Role(role), matrix, words);
     tell(b", pack ", v);
     tell_words(v, words, kind, role);
 }
@@ -180,10 +180,10 @@ fn template_in(words: &mut [u32], record: &mut [u8]) {
     text(b"template");
     lengths(words.len(), b" words, ", record.len(), b" bytes");
     make(words, 3, 1);
-    tell(b": write ", warp::template::write(words, record));
+    tell(b": write ", template::write(words, record));
     number(b", sum ", sum_bytes(record));
     make(words, 0, 0);
-    let v = warp::template::read(record, words);
+    let v = template::read(record, words);
     tell(b", read ", v);
     tell_words(v, words, 3, 1);
 }

@@ -6,8 +6,9 @@ ghost use lib.ListN.{length, drop};
 ghost use Rattle.kinds.specs.Refusals.{numberOf, detailOf, told, after};
 ghost use Rattle.kinds.specs.Answers.{placeAnswer, findAnswer};
 ghost use Rattle.warp.specs.Buffers.{unpackedOf, packedOf};
-ghost use Rattle.warp.specs.Answers.{unpackAnswer, packAnswer};
-ghost use Rattle.warp.specs.Templates.{templateWords, templateRecord, readAnswer as recordReadAnswer, writeAnswer as recordWriteAnswer};
+ghost use Rattle.unpack.specs.Answers.{unpackAnswer};
+ghost use Rattle.pack.specs.Answers.{packAnswer};
+ghost use Rattle.template.specs.Templates.{templateWords, templateRecord, readAnswer as recordReadAnswer, writeAnswer as recordWriteAnswer};
 ghost use Rattle.step.specs.Step.{stepped};
 ghost use Rattle.step.specs.Answers.{stepAnswer, plainAnswer};
 ghost use Rattle.run.specs.Runs.{openedRun, zeroRun, fedRun, usedOf};
@@ -94,7 +95,7 @@ pub extern "C" fn wz_unpack(kind: u32, role: u32, words: &[u32], matrix: &mut [u
     ensures { λ r. ⌜ r ≡ codeOf (unpackAnswer kind role (length (now (words .entry))) (length (now (matrix .entry)))) ⌝ }
     ensures { λ _. ⌜ now (matrix .exit) ≡ after (unpackAnswer kind role (length (now (words .entry))) (length (now (matrix .entry)))) (unpackedOf kind role (now (words .entry))) (now (matrix .entry)) ⌝ }
 {
-    code_of(warp::unpack(Kind(kind), Role(role), words, matrix))
+    code_of(unpack::unpack(Kind(kind), Role(role), words, matrix))
 }
 
 // A matrix to lane words.
@@ -103,7 +104,7 @@ pub extern "C" fn wz_pack(kind: u32, role: u32, matrix: &[u64], words: &mut [u32
     ensures { λ r. ⌜ r ≡ codeOf (packAnswer kind role (now (matrix .entry)) (length (now (words .entry)))) ⌝ }
     ensures { λ _. ⌜ now (words .exit) ≡ after (packAnswer kind role (now (matrix .entry)) (length (now (words .entry)))) (packedOf kind role (now (matrix .entry))) (now (words .entry)) ⌝ }
 {
-    code_of(warp::pack(Kind(kind), Role(role), matrix, words))
+    code_of(pack::pack(Kind(kind), Role(role), matrix, words))
 }
 
 // One step.
@@ -245,7 +246,7 @@ pub extern "C" fn wz_template_read(record: &[u8], words: &mut [u32]) -> u64
     ensures { λ r. ⌜ r ≡ codeOf (recordReadAnswer (length (now («record» .entry))) (length (now (words .entry)))) ⌝ }
     ensures { λ _. ⌜ now (words .exit) ≡ after (recordReadAnswer (length (now («record» .entry))) (length (now (words .entry)))) (templateWords (now («record» .entry))) (now (words .entry)) ⌝ }
 {
-    code_of(warp::template::read(record, words))
+    code_of(template::read(record, words))
 }
 
 // Lane words to their template record.
@@ -254,5 +255,5 @@ pub extern "C" fn wz_template_write(words: &[u32], record: &mut [u8]) -> u64
     ensures { λ r. ⌜ r ≡ codeOf (recordWriteAnswer (length (now (words .entry))) (length (now («record» .entry)))) ⌝ }
     ensures { λ _. ⌜ now («record» .exit) ≡ after (recordWriteAnswer (length (now (words .entry))) (length (now («record» .entry)))) (templateRecord (now (words .entry))) (now («record» .entry)) ⌝ }
 {
-    code_of(warp::template::write(words, record))
+    code_of(template::write(words, record))
 }

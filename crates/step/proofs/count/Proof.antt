@@ -16,8 +16,8 @@ of-requires-2 c κs = search needs
 of-requires-3 : tie.Need-of-requires-3
 of-requires-3 c κs = search needs
 
-cells-requires : tie.Need-cells-requires
-cells-requires c κs =
+cells-by-shape-requires : tie.Need-cells-by-shape-requires
+cells-by-shape-requires c κs =
     let h = c .before in
     let g = h .before in
     let f = g .before in
@@ -43,10 +43,10 @@ returns c =
     let f = g .before in
     let t = f .before .before in
     let s = t .before .before .before in
-    w .cells .ensures
+    w .cells-by-shape .ensures
     ∙ counted _ (s .pre .0 .0) _ _ _ (f .of .ensures .0) (g .of2 .ensures .0) (h .of3 .ensures .0) _ _ _ _ (λ x. t .shared-slice-known3 .given x .fits)
 
 pub count-spec : {M : Type 1} → statement M
 count-spec =
     tie.close
-    (tie.spec of-requires of-requires-2 of-requires-3 cells-requires same-length returns)
+    (tie.spec of-requires of-requires-2 of-requires-3 cells-by-shape-requires same-length returns)

@@ -4,7 +4,7 @@ use mathlib.Core.Path.{ap, _∙_}
 use Prim.Native.Nat.{_*_}
 use Rattle.kinds.specs.declared.Layout.{Layout}
 use Rattle.kinds.proofs.Table.{Legal}
-use Rattle.warp.proofs.Answers.{words-needed}
+use Rattle.warp.proofs.Placed.{words-needed}
 use Rattle.step.proofs.needed.Statement.{statement}
 use Rattle.step.proofs.needed.Tie as tie
 

@@ -7,7 +7,7 @@ use denote.Ref.{now}
 use lib.ListN.{length, take}
 use lib.Seq.{length-take-le}
 use Rattle.kinds.specs.Refusals.{told}
-use Rattle.warp.specs.Answers.{wordsNeeded}
+use Rattle.warp.specs.Buffers.{wordsNeeded}
 use Rattle.step.specs.Answers.{Ready}
 use Rattle.run.specs.Runs.{usedOf}
 use Rattle.run.proofs.Laws.{used-le, read-accepted, written, kept}

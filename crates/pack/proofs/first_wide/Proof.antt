@@ -1,0 +1,80 @@
+-- Every entry that was passed fits; the first that doesn't is the answer. The largest number of b bits is all ones, shifted. Assumes nothing.
+use borrow.Author.Needs.{needs}
+use borrow.Author.Count.{below-more}
+use mathlib.Core.Path.{_≡_, ap, _∙_}
+use Prim.Native.Nat.{ℕ, _+_, _-_, _/_, _^_, _<_, _≤_}
+use native.Mathlib.Nat.{not-suc-le-zero}
+use native.Mathlib.Omega.{arith}
+use denote.Ref.{now}
+use lib.ListN.{length, getD}
+use lib.Pow.{pow-pos, ones-split, ones-lt, high}
+use Rattle.pack.proofs.Answers.{first-all, first-at}
+use Rattle.pack.proofs.first_wide.Statement.{statement}
+use Rattle.pack.proofs.first_wide.Tie as tie
+
+ones : (bits : ℕ) → bits ≤ 64 → 18446744073709551615 / 2 ^ (64 - bits) ≡ 2 ^ bits - 1
+ones bits l =
+    let e : 64 ≡ bits + (64 - bits) = omega arith in
+    ap (λ (n : ℕ). (2 ^ n - 1) / 2 ^ (64 - bits)) e
+    ∙ ap (λ (n : ℕ). n / 2 ^ (64 - bits)) (ones-split bits (64 - bits))
+    ∙ high (2 ^ bits - 1) (64 - bits) (ones-lt (64 - bits))
+
+abbrev Inv-loop : tie.InvT-loop
+Inv-loop matrix bits most i₀ i = (i ≤ length matrix) × ((k : ℕ) → k < i → getD matrix k 0 < 2 ^ bits)
+
+abbrev μ-loop : tie.MeasureT-loop
+μ-loop matrix bits most i₀ i = length matrix - i
+
+sub-most : tie.Need-sub-most Inv-loop μ-loop
+sub-most c = omega arith
+
+shr-most : tie.Need-shr-most Inv-loop μ-loop
+shr-most c = omega arith
+
+loop-holds : tie.Need-loop-holds Inv-loop μ-loop
+loop-holds c = (omega arith, λ k l. absurd (not-suc-le-zero l))
+
+mul-if1 : tie.Need-mul-if1 Inv-loop μ-loop
+mul-if1 c = search needs
+
+shared-slice-read-if1 : tie.Need-shared-slice-read-if1 Inv-loop μ-loop
+shared-slice-read-if1 c = search needs
+
+returns : tie.Need-returns Inv-loop μ-loop
+returns c =
+    let s = c .before .before .before .before in
+    first-at (s .args .bits) (now (s .args .matrix)) (c .before .before .before .loop .i) (c .before .before .loop-test .taken) (c .before .before .before .loop .inv .1) (omega (arith, ones (s .args .bits) (s .pre .1), c .if1 .taken))
+
+add-i : tie.Need-add-i Inv-loop μ-loop
+add-i c = omega arith
+
+loop-less : tie.Need-loop-less Inv-loop μ-loop
+loop-less c = omega arith
+
+loop-again : tie.Need-loop-again Inv-loop μ-loop
+loop-again c =
+    let s = c .before .before .before .before in
+    (omega arith, below-more _ _ (c .before .before .before .loop .inv .1) (omega (arith, ones (s .args .bits) (s .pre .1), c .if1 .left, pow-pos (s .args .bits))))
+
+returns-2 : tie.Need-returns-2 Inv-loop μ-loop
+returns-2 c =
+    let s = c .before .before in
+    let e : c .before .loop .i ≡ length (now (s .args .matrix)) = omega arith in
+    e ∙ first-all (s .args .bits) (now (s .args .matrix)) (λ k l. c .before .loop .inv .1 k (omega arith))
+
+pub first-wide-spec : {M : Type 1} → statement M
+first-wide-spec =
+    tie.close
+    (tie.spec
+    Inv-loop
+    μ-loop
+    sub-most
+    shr-most
+    loop-holds
+    mul-if1
+    shared-slice-read-if1
+    returns
+    add-i
+    loop-less
+    loop-again
+    returns-2)

@@ -1,0 +1,48 @@
+-- What document 01 promises of template records, a sentence above its statement. Assumes nothing.
+use mathlib.Core.Path.{_≡_, sym, ap, _∙_}
+use mathlib.Core.List.{List}
+use Prim.Native.Nat.{ℕ, _+_, _*_}
+use native.Mathlib.Omega.{arith}
+use lib.ListN.{length, getD}
+use Rattle.kinds.specs.Refusals.{given}
+use Rattle.kinds.specs.Answers.{placeAnswer}
+use Rattle.kinds.proofs.Table.{layoutAt}
+use Rattle.kinds.proofs.Promises.{Only, only}
+use Rattle.warp.specs.Buffers.{elementIn, index, unpackedOf, Fitting}
+use Rattle.warp.proofs.Placed.{placed}
+use Rattle.warp.proofs.Round as round
+use Rattle.unpack.proofs.Promises.{unpacked-at}
+use Rattle.pack.proofs.Promises.{unpack-pack}
+use Rattle.template.specs.Templates.{templateKind, templateRole, templateWords, templateRecord, readAnswer, writeAnswer}
+use Rattle.template.proofs.Records.{template-legal, template-laid}
+
+-- 'A record is read into lane words and written back without loss': for every record of 256 bytes,
+pub record-back : (bytes : List ℕ) → length bytes ≡ 256 → Fitting 8 bytes → templateRecord (templateWords bytes) ≡ bytes
+record-back bytes n fit = round.pack-unpack (layoutAt templateKind templateRole) template-laid bytes fit n
+
+-- and for every 64 words of 32 bits.
+pub words-back : (ws : List ℕ) → length ws ≡ 64 → Fitting 32 ws → templateWords (templateRecord ws) ≡ ws
+words-back = unpack-pack templateKind templateRole template-legal
+
+-- 'B of kind 3, row-major': the words that were read, unpacked as B of kind 3, give the record's bytes,
+pub record-is-matrix : (bytes : List ℕ) → length bytes ≡ 256 → Fitting 8 bytes → unpackedOf 3 1 (templateWords bytes) ≡ bytes
+record-is-matrix = record-back
+
+-- 'row k column c at byte 8k + c': the element of the words read whose place is row k, column c is that byte,
+pub read-at : (bytes : List ℕ) → length bytes ≡ 256 → Fitting 8 bytes → (lane i k c : ℕ) → placeAnswer 3 1 lane i ≡ given (k, c)
+    → elementIn 3 1 (templateWords bytes) lane i ≡ getD bytes (8 * k + c) 0
+read-at bytes n fit lane i k c e =
+    let p = placed 3 1 lane i (k, c) e in
+    round.packed-at (layoutAt 3 1) template-laid bytes fit n lane i (p .0) (p .1)
+    ∙ ap (λ (z : ℕ). getD bytes z 0) (ap (index 8) (sym (p .2)) ∙ omega arith)
+
+-- and the byte of the record written is that element of the words.
+pub written-at : (ws : List ℕ) (lane i k c : ℕ) → placeAnswer 3 1 lane i ≡ given (k, c) → getD (templateRecord ws) (8 * k + c) 0 ≡ elementIn 3 1 ws lane i
+written-at ws lane i k c e = ap (λ (z : ℕ). getD (templateRecord ws) z 0) (omega arith) ∙ unpacked-at 3 1 ws lane i (k, c) e
+
+-- 'Show that no second answer satisfies it', a call at a time.
+pub one-record-read : (bytes ws : List ℕ) → Only (readAnswer (length bytes) (length ws)) (templateWords bytes) ws
+one-record-read bytes ws = only _ _ _
+
+pub one-record-written : (ws bytes : List ℕ) → Only (writeAnswer (length ws) (length bytes)) (templateRecord ws) bytes
+one-record-written ws bytes = only _ _ _

@@ -1,0 +1,79 @@
+// Soft templates: records of 256 bytes that hold B of kind 3, row-major, read into lane words and written back.
+ghost use mathlib.Core.Path.{_≡_};
+ghost use lib.ListN.{length};
+ghost use Rattle.kinds.specs.Refusals.{told, after};
+ghost use Rattle.warp.specs.Buffers.{Fitting};
+ghost use Rattle.template.specs.Templates.{templateWords, templateRecord, readAnswer, writeAnswer};
+use kinds::Refusal;
+use kinds::Verdict;
+
+// The bytes of a record.
+pub const BYTES: usize = 256;
+
+// The words of B of kind 3, whose layout the calls below write out: 8 bits, 2 words a lane, 4 side by side, 1 half, 2 spans, turned; 32 rows of
+// 8 columns.
+pub const WORDS: usize = 64;
+
+// A record to the lane words of its matrix.
+pub fn read(record: &[u8], words: &mut [u32]) -> Verdict
+    ensures { λ r. ⌜ told r ≡ readAnswer (length (now («record» .entry))) (length (now (words .entry))) ⌝ }
+    ensures { λ r. ⌜ now (words .exit) ≡ after (told r) (templateWords (now («record» .entry))) (now (words .entry)) ⌝ }
+{
+    if record.len() != BYTES {
+        return Verdict::Refused(Refusal::WrongLength(0));
+    }
+    if words.len() != WORDS {
+        return Verdict::Refused(Refusal::WrongLength(1));
+    }
+    let mut matrix: [u64; 256] = [0; 256];
+    widen(record, &mut matrix);
+    pack::fill_words(&matrix, words, 8, 2, 4, 1, 2, true, 8);
+    Verdict::Accepted
+}
+
+// Lane words to the record of their matrix.
+pub fn write(words: &[u32], record: &mut [u8]) -> Verdict
+    ensures { λ r. ⌜ told r ≡ writeAnswer (length (now (words .entry))) (length (now («record» .entry))) ⌝ }
+    ensures { λ r. ⌜ now («record» .exit) ≡ after (told r) (templateRecord (now (words .entry))) (now («record» .entry)) ⌝ }
+{
+    if words.len() != WORDS {
+        return Verdict::Refused(Refusal::WrongLength(0));
+    }
+    if record.len() != BYTES {
+        return Verdict::Refused(Refusal::WrongLength(1));
+    }
+    let mut matrix: [u64; 256] = [0; 256];
+    unpack::fill(words, &mut matrix, 8, 2, 4, 1, 2, true, 32, 8);
+    narrow(&matrix, record);
+    Verdict::Accepted
+}
+
+fn wide(x: u8) -> u64
+    ensures { λ r. ⌜ r ≡ x ⌝ }
+{
+    x as u64
+}
+
+// The bytes of a record as the entries of its matrix.
+fn widen(record: &[u8], matrix: &mut [u64])
+    requires { ⌜ length (now matrix) ≡ length (now «record») ⌝ }
+    ensures { λ _. ⌜ now (matrix .exit) ≡ now («record» .entry) ⌝ }
+{
+    let mut x = 0;
+    while x < record.len() {
+        matrix[x] = wide(record[x]);
+        x += 1;
+    }
+}
+
+// The entries of a matrix, which fit, as the bytes of its record.
+fn narrow(matrix: &[u64], record: &mut [u8])
+    requires { ⌜ Fitting 8 (now matrix) × (length (now «record») ≡ length (now matrix)) ⌝ }
+    ensures { λ _. ⌜ now («record» .exit) ≡ now (matrix .entry) ⌝ }
+{
+    let mut x = 0;
+    while x < matrix.len() {
+        record[x] = matrix[x] as u8;
+        x += 1;
+    }
+}

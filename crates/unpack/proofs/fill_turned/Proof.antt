@@ -1,0 +1,80 @@
+-- Each width that is written out is the layout's own; of fewer than 32 bits it says the side too. Assumes nothing.
+use borrow.Author.Needs.{needs}
+use mathlib.Core.Path.{refl}
+use native.Mathlib.Omega.{arith}
+use Rattle.unpack.proofs.Answers.{narrow-side}
+use Rattle.unpack.proofs.fill_turned.Statement.{statement}
+use Rattle.unpack.proofs.fill_turned.Tie as tie
+
+fill-with-requires : tie.Need-fill-with-requires
+fill-with-requires c κs =
+    let s = c .before .before .before .before in
+    ((s .pre .0, s .pre .1, s .pre .2), (c .before .if1 .taken, narrow-side (s .args .f) (s .pre .0) 1 (c .before .if1 .taken) (omega arith), s .pre .3))
+
+same-length : tie.Need-same-length
+same-length c = search needs
+
+returns : tie.Need-returns
+returns c = search needs
+
+fill-with-requires-2 : tie.Need-fill-with-requires-2
+fill-with-requires-2 c κs =
+    let s = c .before .before .before .before .before in
+    ((s .pre .0, s .pre .1, s .pre .2), (c .before .if2 .taken, narrow-side (s .args .f) (s .pre .0) 4 (c .before .if2 .taken) (omega arith), s .pre .3))
+
+same-length-2 : tie.Need-same-length-2
+same-length-2 c = search needs
+
+returns-2 : tie.Need-returns-2
+returns-2 c = search needs
+
+fill-with-requires-3 : tie.Need-fill-with-requires-3
+fill-with-requires-3 c κs =
+    let s = c .before .before .before .before .before .before in
+    ((s .pre .0, s .pre .1, s .pre .2), (c .before .if3 .taken, narrow-side (s .args .f) (s .pre .0) 8 (c .before .if3 .taken) (omega arith), s .pre .3))
+
+same-length-3 : tie.Need-same-length-3
+same-length-3 c = search needs
+
+returns-3 : tie.Need-returns-3
+returns-3 c = search needs
+
+fill-with-requires-4 : tie.Need-fill-with-requires-4
+fill-with-requires-4 c κs =
+    let s = c .before .before .before .before .before .before .before in
+    ((s .pre .0, s .pre .1, s .pre .2), (c .before .if4 .taken, narrow-side (s .args .f) (s .pre .0) 16 (c .before .if4 .taken) (omega arith), s .pre .3))
+
+same-length-4 : tie.Need-same-length-4
+same-length-4 c = search needs
+
+returns-4 : tie.Need-returns-4
+returns-4 c = search needs
+
+fill-with-requires-5 : tie.Need-fill-with-requires-5
+fill-with-requires-5 c κs = let s = c .before .before .before .before .before .before .before in ((s .pre .0, s .pre .1, s .pre .2), (refl, refl, s .pre .3))
+
+same-length-5 : tie.Need-same-length-5
+same-length-5 c = search needs
+
+returns-5 : tie.Need-returns-5
+returns-5 c = search needs
+
+pub fill-turned-spec : {M : Type 1} → statement M
+fill-turned-spec =
+    tie.close
+    (tie.spec
+    fill-with-requires
+    same-length
+    returns
+    fill-with-requires-2
+    same-length-2
+    returns-2
+    fill-with-requires-3
+    same-length-3
+    returns-3
+    fill-with-requires-4
+    same-length-4
+    returns-4
+    fill-with-requires-5
+    same-length-5
+    returns-5)
