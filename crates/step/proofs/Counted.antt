@@ -1,7 +1,7 @@
 -- The ones counted word by word are the ones among the combined bits of A's row and B's column. Assumes nothing.
 use mathlib.Core.Path.{_≡_, refl, sym, ap, ap₂, _∙_}
 use mathlib.Core.List.{List}
-use Prim.Native.Nat.{ℕ, _*_, _/_, _%_, _^_, _<_, _≤_}
+use Prim.Native.Nat.{ℕ, _*_, _/_, _%_, _^_, _<_}
 use native.Mathlib.Omega.{arith}
 use lib.IntN.{pos}
 use lib.ListN.{getD}
@@ -10,10 +10,8 @@ use Rattle.laws.specs.Lists.{tab, blocks}
 use Rattle.laws.proofs.Lists.{tab-ext}
 use Rattle.kinds.specs.Kinds.{lanes}
 use Rattle.kinds.specs.Rule.{laneOf, elementOf, major, minor}
-use Rattle.kinds.specs.declared.Layout.{Layout}
 use Rattle.kinds.proofs.Digits.{major-lt, minor-lt}
-use Rattle.kinds.proofs.Table.{layoutAt}
-use Rattle.warp.specs.Buffers.{elementAt}
+use Rattle.warp.specs.Buffers.{elementAt, wordsNeeded}
 use Rattle.step.specs.Step.{entryIn, combinedBits, added, cellOf, resultAt, stepped}
 use Rattle.step.specs.Sums.{bitsOf, onesWord}
 use Rattle.step.proofs.Matrices.{entry-A, entry-B, entry-C, stepped-is}
@@ -38,11 +36,10 @@ module _ (mode : ℕ) (a b c : List ℕ) (fit : (x : ℕ) → getD c x 0 < 2 ^ 3
       (λ x h. word-is (x / 2) (x % 2) (omega arith) (omega arith))
       ∙ sym (stepped-is 1 (omega arith) (omega arith) 0 mode a b c)
 
--- the same by the layouts that the code has
-module _ (k : ℕ) (one : k ≡ 1) (f g h : Layout) (ef : f ≡ layoutAt k 0) (eg : g ≡ layoutAt k 1) (eh : h ≡ layoutAt k 2) where
-  pub numbers : (0 < f .halves) × (f .halves ≤ 2) × (g .words ≤ 2) × (f .words ≡ g .words * f .halves) × (h .words ≡ 2 * f .halves)
-  numbers = rw (ef, eg, eh, one) (omega arith, omega arith, omega arith, refl, refl)
+-- the same of the kind that the code was given
+module _ (k : ℕ) (one : k ≡ 1) where
+  pub needs : (wordsNeeded k 0 ≡ 32) × (wordsNeeded k 1 ≡ 32) × (wordsNeeded k 2 ≡ 64)
+  needs = rw one (refl, refl, refl)
 
-  pub counted : (mode : ℕ) (a b c : List ℕ) → ((x : ℕ) → getD c x 0 < 2 ^ 32)
-      → tab (lanes * h .words) (blocks (h .words) (onesWord mode (128 * g .words) (f .words) (f .halves) (g .words) (h .words) a b c)) ≡ stepped k 0 mode a b c
-  counted mode a b c fit = rw (ef, eg, eh, one) (words-are mode a b c fit)
+  pub counted : (mode : ℕ) (a b c : List ℕ) → ((x : ℕ) → getD c x 0 < 2 ^ 32) → tab (32 * 2) (blocks 2 (onesWord mode 128 1 1 1 2 a b c)) ≡ stepped k 0 mode a b c
+  counted mode a b c fit = rw one (words-are mode a b c fit)

@@ -113,16 +113,13 @@ fn multiply(kind: Kind, signs: Signs, mode: Mode, a: &[u32], b: &[u32], c: &[u32
     );
 }
 
-// The one-bit kind.
+// The one-bit kind. Its numbers are written out: a lane has one word of A and one of B and two of C, and A has one half.
 fn count(kind: Kind, mode: Mode, a: &[u32], b: &[u32], c: &[u32], d: &mut [u32])
     requires { ⌜ (kind .0 ≡ 1) × (mode .0 ≤ 1) ⌝ }
     requires { ⌜ Sized (kind .0) (length (now a)) (length (now b)) (length (now c)) (length (now d)) ⌝ }
     ensures { λ _. ⌜ now (d .exit) ≡ stepped (kind .0) 0 (mode .0) (now (a .entry)) (now (b .entry)) (now (c .entry)) ⌝ }
 {
-    let f = Layout::of(kind, Role(Role::A));
-    let g = Layout::of(kind, Role(Role::B));
-    let h = Layout::of(kind, Role(Role::C));
-    ones::cells_by_shape(mode.0, f.words, f.halves, g.words, h.words, a, b, c, d);
+    ones::cells(mode.0, 1, 1, 1, 2, a, b, c, d);
 }
 
 // The words of D, for numbers and lengths that were judged: the worker of a step and of a run's feed.

@@ -77,28 +77,3 @@ pub fn cells(
         d[j] = crate::sums::cell(0, c[j], n, 0);
     }
 }
-
-// The same, with the numbers of the smallest shape written out, so that the compiler makes a loop for it.
-pub fn cells_by_shape(
-    mode: u32,
-    each_a: usize,
-    halves: usize,
-    each_b: usize,
-    each: usize,
-    a: &[u32],
-    b: &[u32],
-    c: &[u32],
-    d: &mut [u32],
-)
-    requires { ⌜ (mode ≤ 1) × (0 < halves) × (halves ≤ 2) × («each_b» ≤ 2) × («each_a» ≡ «each_b» * halves) × (each ≡ 2 * halves) ⌝ }
-    requires { ⌜ (length (now a) ≡ lanes * «each_a») × (length (now b) ≡ lanes * «each_b») × (length (now c) ≡ lanes * each) × (length (now d) ≡ lanes * each) ⌝ }
-    ensures { λ _. ⌜ now (d .exit) ≡ tab (lanes * each) (blocks each (onesWord mode (128 * «each_b») «each_a» halves «each_b» each (now (a .entry)) (now (b .entry)) (now (c .entry)))) ⌝ }
-{
-    if halves == 1 {
-        if each_b == 1 {
-            cells(mode, 1, 1, 1, 2, a, b, c, d);
-            return;
-        }
-    }
-    cells(mode, each_a, halves, each_b, each, a, b, c, d);
-}
