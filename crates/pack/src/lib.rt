@@ -1,11 +1,12 @@
 // Packing: the row-major matrix of bit patterns to lane words.
 ghost use mathlib.Core.Path.{_≡_};
+ghost use mathlib.Core.Bool.{true, false};
 ghost use Prim.Native.Nat.{ℕ, _+_, _*_, _^_, _<_, _≤_};
 ghost use lib.ListN.{length, getD};
 ghost use Rattle.laws.specs.Lists.{tab};
 ghost use Rattle.laws.specs.Fields.{joined};
 ghost use Rattle.kinds.specs.Kinds.{lanes};
-ghost use Rattle.kinds.specs.Rule.{Sane, Laid, shape, turn, major, minor};
+ghost use Rattle.kinds.specs.Rule.{Sane, Laid, shape, turn, major, minor, rowsOf, columnsOf};
 ghost use Rattle.kinds.specs.Refusals.{told, after};
 ghost use Rattle.warp.specs.Buffers.{index, stepOf, Matrix, wordAt, packed, packedOf, Fitting};
 ghost use Rattle.pack.specs.Answers.{firstWide, packBy, packAnswer};
@@ -174,6 +175,90 @@ fn first_wide(matrix: &[u64], bits: usize) -> usize
     i
 }
 
+// A layout's words, by a width, a side and a turn that are the layout's own.
+fn fill_words_with(
+    matrix: &[u64],
+    words: &mut [u32],
+    f: Layout,
+    bits: usize,
+    side: usize,
+    turned: bool,
+)
+    requires { ⌜ Laid f × Fitting (f .bits) (now matrix) × (length (now matrix) ≡ rowsOf f * columnsOf f) × (length (now words) ≡ lanes * f .words) ⌝ }
+    requires { ⌜ (f .bits ≡ bits) × (f .side ≡ side) × (f .turned ≡ turned) ⌝ }
+    ensures { λ _. ⌜ now (words .exit) ≡ packed f (now (matrix .entry)) ⌝ }
+{
+    let columns = warp::columns_in(f);
+    fill_words(
+        matrix,
+        words,
+        bits,
+        f.words,
+        side,
+        f.halves,
+        f.spans,
+        turned,
+        columns,
+    );
+}
+
+// The same, with the numbers of the widths of a word and more written out, so that the compiler makes a loop for each: of A and C,
+fn fill_words_straight(matrix: &[u64], words: &mut [u32], f: Layout)
+    requires { ⌜ Laid f × Fitting (f .bits) (now matrix) × (length (now matrix) ≡ rowsOf f * columnsOf f) × (length (now words) ≡ lanes * f .words) × (f .turned ≡ false) ⌝ }
+    ensures { λ _. ⌜ now (words .exit) ≡ packed f (now (matrix .entry)) ⌝ }
+{
+    let bits = f.bits;
+    let side = f.side;
+    if bits == 32 {
+        if side == 1 {
+            return fill_words_with(matrix, words, f, 32, 1, false);
+        }
+        if side == 2 {
+            return fill_words_with(matrix, words, f, 32, 2, false);
+        }
+    }
+    if bits == 64 {
+        if side == 1 {
+            return fill_words_with(matrix, words, f, 64, 1, false);
+        }
+        if side == 2 {
+            return fill_words_with(matrix, words, f, 64, 2, false);
+        }
+    }
+    fill_words_with(matrix, words, f, bits, side, false);
+}
+
+// and of B.
+fn fill_words_turned(matrix: &[u64], words: &mut [u32], f: Layout)
+    requires { ⌜ Laid f × Fitting (f .bits) (now matrix) × (length (now matrix) ≡ rowsOf f * columnsOf f) × (length (now words) ≡ lanes * f .words) × (f .turned ≡ true) ⌝ }
+    ensures { λ _. ⌜ now (words .exit) ≡ packed f (now (matrix .entry)) ⌝ }
+{
+    let bits = f.bits;
+    let side = f.side;
+    if bits == 32 {
+        if side == 1 {
+            return fill_words_with(matrix, words, f, 32, 1, true);
+        }
+    }
+    if bits == 64 {
+        if side == 1 {
+            return fill_words_with(matrix, words, f, 64, 1, true);
+        }
+    }
+    fill_words_with(matrix, words, f, bits, side, true);
+}
+
+fn fill_words_by_width(matrix: &[u64], words: &mut [u32], f: Layout)
+    requires { ⌜ Laid f × Fitting (f .bits) (now matrix) × (length (now matrix) ≡ rowsOf f * columnsOf f) × (length (now words) ≡ lanes * f .words) ⌝ }
+    ensures { λ _. ⌜ now (words .exit) ≡ packed f (now (matrix .entry)) ⌝ }
+{
+    let turned = f.turned;
+    if turned {
+        return fill_words_turned(matrix, words, f);
+    }
+    fill_words_straight(matrix, words, f);
+}
+
 fn pack_in(f: Layout, matrix: &[u64], words: &mut [u32]) -> Verdict
     requires { ⌜ Laid f ⌝ }
     ensures { λ r. ⌜ told r ≡ packBy f (now (matrix .entry)) (length (now (words .entry))) ⌝ }
@@ -193,17 +278,7 @@ fn pack_in(f: Layout, matrix: &[u64], words: &mut [u32]) -> Verdict
     if wide < matrix.len() {
         return Verdict::Refused(Refusal::TooWide(wide as u32));
     }
-    fill_words(
-        matrix,
-        words,
-        bits,
-        each,
-        f.side,
-        f.halves,
-        f.spans,
-        f.turned,
-        columns,
-    );
+    fill_words_by_width(matrix, words, f);
     Verdict::Accepted
 }
 

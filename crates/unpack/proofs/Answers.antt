@@ -18,13 +18,6 @@ unpack-is k r ok ws m =
     ap₂ (λ (a b : ℕ). if not (ws =? a) then refusal 5 0 else if not (m =? b) then refusal 5 1 else given tt) (words-needed k r ok) (entries-needed k r ok)
     ∙ sym (judged-is k r _ ok)
 
--- a layout whose bits, side and turn are known
-pub with-numbers : (f : Layout) (b p : ℕ) (t : Bool) → f .bits ≡ b → f .side ≡ p → f .turned ≡ t
-    → f ≡ record { bits = b; words = f .words; side = p; halves = f .halves; spans = f .spans; turned = t }
-with-numbers f b p t eb ep et =
-    ap₂ (λ (b p : ℕ). record { bits = b; words = f .words; side = p; halves = f .halves; spans = f .spans; turned = f .turned }) eb ep
-    ∙ ap (λ (t : Bool). record { bits = b; words = f .words; side = p; halves = f .halves; spans = f .spans; turned = t }) et
-
 -- the side of a narrow width
 pub narrow-side : (f : Layout) → Laid f → (b : ℕ) → f .bits ≡ b → b < 32 → f .side ≡ 32 / b
 narrow-side f ok b e h = ok .narrow-side (omega arith) ∙ ap (λ (b : ℕ). 32 / b) e

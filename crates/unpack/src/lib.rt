@@ -176,7 +176,7 @@ fn fill_with(words: &[u32], matrix: &mut [u64], f: Layout, bits: usize, side: us
     );
 }
 
-// The same, with the numbers of each narrow width written out, so that the compiler makes a loop for each: of A and C,
+// The same, with the numbers of each width written out, so that the compiler makes a loop for each: of A and C,
 fn fill_straight(words: &[u32], matrix: &mut [u64], f: Layout)
     requires { ⌜ Laid f × (length (now words) ≡ lanes * f .words) × (length (now matrix) ≡ rowsOf f * columnsOf f) × (f .turned ≡ false) ⌝ }
     ensures { λ _. ⌜ now (matrix .exit) ≡ unpacked f (now (words .entry)) ⌝ }
@@ -194,6 +194,22 @@ fn fill_straight(words: &[u32], matrix: &mut [u64], f: Layout)
     }
     if bits == 16 {
         return fill_with(words, matrix, f, 16, 2, false);
+    }
+    if bits == 32 {
+        if side == 1 {
+            return fill_with(words, matrix, f, 32, 1, false);
+        }
+        if side == 2 {
+            return fill_with(words, matrix, f, 32, 2, false);
+        }
+    }
+    if bits == 64 {
+        if side == 1 {
+            return fill_with(words, matrix, f, 64, 1, false);
+        }
+        if side == 2 {
+            return fill_with(words, matrix, f, 64, 2, false);
+        }
     }
     fill_with(words, matrix, f, bits, side, false);
 }
@@ -216,6 +232,16 @@ fn fill_turned(words: &[u32], matrix: &mut [u64], f: Layout)
     }
     if bits == 16 {
         return fill_with(words, matrix, f, 16, 2, true);
+    }
+    if bits == 32 {
+        if side == 1 {
+            return fill_with(words, matrix, f, 32, 1, true);
+        }
+    }
+    if bits == 64 {
+        if side == 1 {
+            return fill_with(words, matrix, f, 64, 1, true);
+        }
     }
     fill_with(words, matrix, f, bits, side, true);
 }

@@ -51,13 +51,49 @@ returns-4 : tie.Need-returns-4
 returns-4 c = search needs
 
 fill-with-requires-5 : tie.Need-fill-with-requires-5
-fill-with-requires-5 c κs = let s = c .before .before .before .before .before .before .before in ((s .pre .0, s .pre .1, s .pre .2), (refl, refl, s .pre .3))
+fill-with-requires-5 c κs = search needs
 
 same-length-5 : tie.Need-same-length-5
 same-length-5 c = search needs
 
 returns-5 : tie.Need-returns-5
 returns-5 c = search needs
+
+fill-with-requires-6 : tie.Need-fill-with-requires-6
+fill-with-requires-6 c κs = search needs
+
+same-length-6 : tie.Need-same-length-6
+same-length-6 c = search needs
+
+returns-6 : tie.Need-returns-6
+returns-6 c = search needs
+
+fill-with-requires-7 : tie.Need-fill-with-requires-7
+fill-with-requires-7 c κs = search needs
+
+same-length-7 : tie.Need-same-length-7
+same-length-7 c = search needs
+
+returns-7 : tie.Need-returns-7
+returns-7 c = search needs
+
+fill-with-requires-8 : tie.Need-fill-with-requires-8
+fill-with-requires-8 c κs = search needs
+
+same-length-8 : tie.Need-same-length-8
+same-length-8 c = search needs
+
+returns-8 : tie.Need-returns-8
+returns-8 c = search needs
+
+fill-with-requires-9 : tie.Need-fill-with-requires-9
+fill-with-requires-9 c κs = search needs
+
+same-length-9 : tie.Need-same-length-9
+same-length-9 c = search needs
+
+returns-9 : tie.Need-returns-9
+returns-9 c = search needs
 
 pub fill-straight-spec : {M : Type 1} → statement M
 fill-straight-spec =
@@ -77,4 +113,16 @@ fill-straight-spec =
     returns-4
     fill-with-requires-5
     same-length-5
-    returns-5)
+    returns-5
+    fill-with-requires-6
+    same-length-6
+    returns-6
+    fill-with-requires-7
+    same-length-7
+    returns-7
+    fill-with-requires-8
+    same-length-8
+    returns-8
+    fill-with-requires-9
+    same-length-9
+    returns-9)

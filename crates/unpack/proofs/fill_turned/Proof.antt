@@ -51,13 +51,31 @@ returns-4 : tie.Need-returns-4
 returns-4 c = search needs
 
 fill-with-requires-5 : tie.Need-fill-with-requires-5
-fill-with-requires-5 c κs = let s = c .before .before .before .before .before .before .before in ((s .pre .0, s .pre .1, s .pre .2), (refl, refl, s .pre .3))
+fill-with-requires-5 c κs = search needs
 
 same-length-5 : tie.Need-same-length-5
 same-length-5 c = search needs
 
 returns-5 : tie.Need-returns-5
 returns-5 c = search needs
+
+fill-with-requires-6 : tie.Need-fill-with-requires-6
+fill-with-requires-6 c κs = search needs
+
+same-length-6 : tie.Need-same-length-6
+same-length-6 c = search needs
+
+returns-6 : tie.Need-returns-6
+returns-6 c = search needs
+
+fill-with-requires-7 : tie.Need-fill-with-requires-7
+fill-with-requires-7 c κs = search needs
+
+same-length-7 : tie.Need-same-length-7
+same-length-7 c = search needs
+
+returns-7 : tie.Need-returns-7
+returns-7 c = search needs
 
 pub fill-turned-spec : {M : Type 1} → statement M
 fill-turned-spec =
@@ -77,4 +95,10 @@ fill-turned-spec =
     returns-4
     fill-with-requires-5
     same-length-5
-    returns-5)
+    returns-5
+    fill-with-requires-6
+    same-length-6
+    returns-6
+    fill-with-requires-7
+    same-length-7
+    returns-7)

@@ -6,7 +6,7 @@ use denote.Ref.{now}
 use Rattle.kinds.specs.Rule.{Laid, shape, rowsOf, columnsOf}
 use Rattle.kinds.specs.declared.Layout.{Layout}
 use Rattle.warp.specs.Buffers.{unpacked}
-use Rattle.unpack.proofs.Answers.{with-numbers}
+use Rattle.warp.proofs.Placed.{with-numbers}
 use Rattle.unpack.proofs.fill_with.Statement.{statement}
 use Rattle.unpack.proofs.fill_with.Tie as tie
 
