@@ -1,0 +1,198 @@
+//! "Bench figures", asked of the library and of the rules alike.
+
+use crate::calls::Calls;
+use crate::report::{shown, Difference, Tally};
+use crate::run::WORDS;
+
+/// Kind, role, lane, element; row, column.
+const PLACES: [([u32; 4], [u32; 2]); 9] = [
+    ([5, 0, 0, 16], [0, 32]),
+    ([3, 0, 5, 9], [1, 21]),
+    ([6, 0, 5, 1], [1, 3]),
+    ([8, 0, 5, 1], [9, 1]),
+    ([3, 1, 31, 7], [31, 7]),
+    ([2, 2, 6, 3], [9, 5]),
+    ([10, 1, 6, 0], [2, 1]),
+    // From the lookup program's example.
+    ([5, 0, 0x1f, 0x1f], [15, 63]),
+    ([8, 0, 0x05, 0x01], [9, 1]),
+];
+
+/// Kind, role, row, column; lane, element.
+const REVERSE: [([u32; 4], [u32; 2]); 2] = [([4, 0, 9, 13], [5, 13]), ([9, 0, 15, 7], [31, 3])];
+
+const MOST: u32 = 2_147_483_647;
+/// Four bytes of -128.
+const LEAST_BYTES: u32 = 0x8080_8080;
+
+/// Kind, signs, mode; every word of A, B and C; every word of D.
+const STEPS: [([u32; 3], [u32; 3], i32); 8] = [
+    ([3, 0, 0], [LEAST_BYTES, LEAST_BYTES, 0], 524_288),
+    ([3, 0, 0], [LEAST_BYTES, LEAST_BYTES, MOST], -2_146_959_361),
+    ([3, 0, 1], [LEAST_BYTES, LEAST_BYTES, MOST], 2_147_483_647),
+    ([1, 0, 0], [u32::MAX, 0, 0], 128),
+    ([1, 0, 1], [u32::MAX, 0, 0], 0),
+    ([1, 0, 0], [u32::MAX, 0, MOST], -2_147_483_521),
+    ([2, 0, 0], [u32::MAX, 0x0101_0101, 0], -16),
+    ([2, 1, 0], [u32::MAX, 0x0101_0101, 0], 4_080),
+];
+
+/// Words of A, B and C of kinds 1 to 3, the kinds of the figures.
+const LENGTHS: [[usize; 3]; 3] = [[32, 32, 64], [64, 32, 128], [128, 64, 128]];
+
+/// Size, byte-id; the numbers of one lane with the metadata word 807F0100.
+const SCALES: [(u32, u32, &[i32]); 5] = [
+    (1, 0, &[-127]),
+    (1, 1, &[-126]),
+    (1, 2, &[0]),
+    (1, 3, &[1]),
+    (2, 2, &[0, 1]),
+];
+
+/// Lane words of the record whose byte j is j: word number, content.
+const TEMPLATE: [(usize, u32); 5] = [
+    (0, 0x1810_0800),
+    (1, 0x9890_8880),
+    (10, 0x3931_2921),
+    (11, 0xb9b1_a9a1),
+    (63, 0xfff7_efe7),
+];
+
+/// Goes on where a figure is as the paper has it.
+fn equal<T: PartialEq + std::fmt::Debug>(
+    figure: impl FnOnce() -> String,
+    given: T,
+    paper: T,
+) -> Result<(), Difference> {
+    if given == paper {
+        return Ok(());
+    }
+    let figure = figure();
+    Err(Difference::new(format!(
+        "{figure}: gives {given:?}, the paper has {paper:?}"
+    )))
+}
+
+fn accepted(figure: impl FnOnce() -> String, answer: u64) -> Result<(), Difference> {
+    equal(figure, shown(answer), shown(0))
+}
+
+fn places(calls: &dyn Calls) -> Result<(), Difference> {
+    for (numbers, paper) in PLACES {
+        let [kind, role, lane, element] = numbers;
+        let mut out = [u32::MAX; 2];
+        let answer = calls.place(kind, role, lane, element, &mut out);
+        equal(|| format!("place {numbers:?}"), (answer, out), (0, paper))?;
+    }
+    for (numbers, paper) in REVERSE {
+        let [kind, role, row, column] = numbers;
+        let mut out = [u32::MAX; 2];
+        let answer = calls.find(kind, role, row, column, &mut out);
+        equal(|| format!("find {numbers:?}"), (answer, out), (0, paper))?;
+    }
+    let mut out = [7; 2];
+    let answer = calls.place(0x0b, 0, 0, 0, &mut out);
+    equal(
+        || "place of kind 11".to_string(),
+        (answer, out),
+        (1, [7; 2]),
+    )
+}
+
+fn steps(calls: &dyn Calls) -> Result<(), Difference> {
+    for (selector, [a, b, c], paper) in STEPS {
+        let [na, nb, nc] = LENGTHS[selector[0] as usize - 1];
+        let (a, b, c) = (vec![a; na], vec![b; nb], vec![c; nc]);
+        let mut d = vec![!(paper as u32); nc];
+        let figure = || format!("step {selector:?}");
+        accepted(figure, calls.step(selector, &a, &b, &c, &mut d))?;
+        for word in d {
+            equal(figure, word as i32, paper)?;
+        }
+    }
+    Ok(())
+}
+
+fn run_sums(calls: &dyn Calls, run: &[u32; WORDS], paper: i32) -> Result<(), Difference> {
+    let figure = || format!("run after {} blocks", run[3]);
+    let mut d = [0; 128];
+    accepted(figure, calls.read(run, &mut d))?;
+    for word in d {
+        equal(figure, word as i32, paper)?;
+    }
+    Ok(())
+}
+
+/// The -128 block fed 4,095 times, once more, and once too often.
+fn runs(calls: &dyn Calls) -> Result<(), Difference> {
+    for (mode, paper) in [(0, -2_147_483_648), (1, 2_147_483_647)] {
+        let (a, b) = ([LEAST_BYTES; 128], [LEAST_BYTES; 64]);
+        let mut run = [u32::MAX; WORDS];
+        let figure = || format!("run of kind 3, mode {mode}");
+        accepted(figure, calls.open([3, 0, mode], &[0; 128], &mut run))?;
+        for _ in 0..4095 {
+            accepted(figure, calls.feed(&mut run, &a, &b))?;
+        }
+        run_sums(calls, &run, 2_146_959_360)?;
+        accepted(figure, calls.feed(&mut run, &a, &b))?;
+        run_sums(calls, &run, paper)?;
+        let full = run;
+        let answer = calls.feed(&mut run, &a, &b);
+        equal(figure, (answer, run), (9, full))?;
+    }
+    Ok(())
+}
+
+fn scales(calls: &dyn Calls) -> Result<(), Difference> {
+    let metadata = [0x807f_0100; 32];
+    for (size, byte_id, paper) in SCALES {
+        for (side, lanes) in [(0, 16), (1, 8)] {
+            let selector = [size, side, byte_id, 0];
+            let figure = || format!("scale {selector:?}");
+            let mut out = vec![1000; lanes * size as usize];
+            accepted(figure, calls.scale(selector, &metadata, &mut out))?;
+            equal(figure, out, paper.repeat(lanes))?;
+        }
+    }
+    let mut out = [1000; 32];
+    let answer = calls.scale([2, 0, 1, 0], &metadata, &mut out);
+    let figure = || "scale of size 2 with byte-id 1".to_string();
+    equal(figure, (answer, out), (2 << 32 | 8, [1000; 32]))
+}
+
+fn templates(calls: &dyn Calls) -> Result<(), Difference> {
+    let mut record = [0; 256];
+    for (j, byte) in record.iter_mut().enumerate() {
+        *byte = j as u8;
+    }
+    let (mut words, mut back) = ([0; 64], [0; 256]);
+    let figure = || "template record".to_string();
+    accepted(figure, calls.template_read(&record, &mut words))?;
+    for (word, paper) in TEMPLATE {
+        equal(|| format!("template word {word}"), words[word], paper)?;
+    }
+    accepted(figure, calls.template_write(&words, &mut back))?;
+    equal(figure, back, record)
+}
+
+/// A figure group: its name and its check.
+type Group = (&'static str, fn(&dyn Calls) -> Result<(), Difference>);
+
+const GROUPS: [Group; 5] = [
+    ("places", places),
+    ("steps", steps),
+    ("runs", runs),
+    ("scales", scales),
+    ("templates", templates),
+];
+
+pub fn figures(library: &dyn Calls, rules: &dyn Calls) -> Result<Tally, Difference> {
+    let mut tally = Tally::new("figures");
+    for (name, group) in GROUPS {
+        for (side, calls) in [("library", library), ("rules", rules)] {
+            group(calls).map_err(|it| it.within(&format!("figures, {name}, {side}")))?;
+            tally.count(0);
+        }
+    }
+    Ok(tally)
+}
