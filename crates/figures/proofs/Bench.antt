@@ -9,7 +9,7 @@ use Rattle.laws.specs.Lists.{tab}
 use Rattle.kinds.specs.Places.{placeOf}
 use Rattle.kinds.specs.Rule.{laneOf, elementOf}
 use Rattle.kinds.specs.Answers.{placeAnswer, findAnswer}
-use Rattle.step.specs.Step.{cellOf}
+use Rattle.cell.specs.Limits.{cellOf}
 use Rattle.step.specs.Answers.{stepAnswer}
 use Rattle.figures.specs.Figures.{Figure, place, find, step, Right, All, starred}
 use Rattle.figures.proofs.Uniform.{addedAll, Computed, steps}

@@ -25,7 +25,8 @@ use Rattle.kinds.proofs.Table.{Legal, layoutAt, sane, rows-are, columns-are, wo
 use Rattle.warp.specs.Buffers.{laneNumber, elementAt}
 use Rattle.warp.specs.Buffers.{wordsNeeded}
 use Rattle.warp.proofs.Round as round
-use Rattle.step.specs.Step.{entryIn, depth, half, unsignedA, unsignedB, products, oneBit, combinedBits, added, limit, cellOf, resultAt}
+use Rattle.step.specs.Step.{entryIn, depth, half, unsignedA, unsignedB, products, oneBit, combinedBits, added, limit, resultAt}
+use Rattle.cell.specs.Limits.{cellOf}
 use Rattle.step.specs.Answers.{stepAnswer}
 use Rattle.step.proofs.Accepted.{step-accepted}
 use Rattle.step.proofs.Matrices.{legal, entry-is}

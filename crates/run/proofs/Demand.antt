@@ -18,7 +18,8 @@ use Rattle.kinds.proofs.Table.{layoutAt, sane}
 use Rattle.warp.specs.Buffers.{wordsNeeded}
 use Rattle.warp.proofs.Placed.{words-needed}
 use Rattle.warp.proofs.Round as round
-use Rattle.step.specs.Step.{entryIn, added, limit, cellOf, resultAt, results, stepped}
+use Rattle.step.specs.Step.{entryIn, added, limit, resultAt, results, stepped}
+use Rattle.cell.specs.Limits.{cellOf}
 use Rattle.step.specs.Answers.{Ready, noSelectors}
 use Rattle.step.proofs.Accepted.{selectors-ok}
 use Rattle.step.proofs.Matrices.{legal}

@@ -12,8 +12,9 @@ use Rattle.kinds.specs.Kinds.{lanes}
 use Rattle.kinds.specs.Rule.{laneOf, elementOf, major, minor}
 use Rattle.kinds.proofs.Digits.{major-lt, minor-lt}
 use Rattle.warp.specs.Buffers.{elementAt, wordsNeeded}
-use Rattle.step.specs.Step.{entryIn, combinedBits, added, cellOf, resultAt, stepped}
-use Rattle.step.specs.Sums.{bitsOf, onesWord}
+use Rattle.step.specs.Step.{entryIn, combinedBits, added, resultAt, stepped}
+use Rattle.cell.specs.Limits.{cellOf}
+use Rattle.ones.specs.Combined.{bitsOf, onesWord}
 use Rattle.step.proofs.Matrices.{entry-A, entry-B, entry-C, stepped-is}
 
 module _ (mode : ℕ) (a b c : List ℕ) (fit : (x : ℕ) → getD c x 0 < 2 ^ 32) where

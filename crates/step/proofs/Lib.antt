@@ -1,7 +1,4 @@
 pub mod Accepted
-pub mod Cells
-pub mod Counts
-pub mod Digits
 pub mod Matrices
 pub mod Counted
 pub mod Multiplied

@@ -25,7 +25,8 @@ use Rattle.warp.specs.Buffers.{index, laneNumber, elementAt, entryAt, unpackedO
 use Rattle.warp.specs.Buffers.{Fitting}
 use Rattle.warp.proofs.Places.{place-in}
 use Rattle.warp.proofs.Round as round
-use Rattle.step.specs.Step.{entryIn, depth, limit, added, cellOf, resultAt, results, stepped}
+use Rattle.step.specs.Step.{entryIn, depth, limit, added, resultAt, results, stepped}
+use Rattle.cell.specs.Limits.{cellOf}
 
 -- an entry of a buffer's matrix is its holder's element
 pub entry-is : (k r : ℕ) → Legal k r → (ws : List ℕ) (row column : ℕ) → row < rowsOf (layoutAt k r) → column < columnsOf (layoutAt k r)

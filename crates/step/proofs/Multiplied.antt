@@ -16,10 +16,11 @@ use Rattle.kinds.specs.Rule.{Sane, sideOf, major, minor}
 use Rattle.kinds.specs.declared.Layout.{Layout}
 use Rattle.kinds.proofs.Digits.{major-lt, minor-lt}
 use Rattle.kinds.proofs.Table.{layoutAt, sane}
-use Rattle.step.specs.Step.{entryIn, depth, half, unsignedA, unsignedB, products, added, cellOf, resultAt, stepped}
+use Rattle.step.specs.Step.{entryIn, depth, half, unsignedA, unsignedB, products, added, resultAt, stepped}
+use Rattle.cell.specs.Limits.{cellOf}
 use Rattle.step.specs.Answers.{Ready}
-use Rattle.step.specs.Sums.{offsetOf, digit, digitAt, offsetDot, digitsWord}
-use Rattle.step.proofs.Digits.{element-lt, dot-digits, offset-ext}
+use Rattle.sums.specs.Sums.{offsetOf, digit, digitAt, offsetDot, digitsWord}
+use Rattle.sums.proofs.Offsets.{element-lt, dot-digits, offset-ext}
 use Rattle.step.proofs.Matrices.{entry-A, entry-B, entry-C, stepped-is, legal, depth-is, depth-small, pairs, bits-pos, bits-le, columns-half, halves-pos, words-pos, room-A, room-B}
 
 -- a digit stands where its major and minor number say

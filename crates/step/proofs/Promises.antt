@@ -16,7 +16,8 @@ use Rattle.kinds.specs.Kinds.{entryOf, roleOf, rows, columns}
 use Rattle.kinds.specs.Refusals.{given}
 use Rattle.kinds.proofs.Table.{rows-are, columns-are}
 use Rattle.kinds.proofs.Promises.{Only, only}
-use Rattle.step.specs.Step.{entryIn, depth, half, unsignedA, unsignedB, products, combinedBits, oneBit, added, limit, cellOf, resultAt, stepped}
+use Rattle.step.specs.Step.{entryIn, depth, half, unsignedA, unsignedB, products, combinedBits, oneBit, added, limit, resultAt, stepped}
+use Rattle.cell.specs.Limits.{cellOf}
 use Rattle.step.specs.Answers.{Ready, stepAnswer, plainAnswer}
 use Rattle.step.proofs.Accepted.{step-accepted}
 use Rattle.step.proofs.Matrices.{legal, entry-D}

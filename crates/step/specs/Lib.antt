@@ -1,3 +1,2 @@
 pub mod Step
 pub mod Answers
-pub mod Sums

@@ -3,13 +3,14 @@ use Prim.Native.Nat.{ℕ, _*_, _-_, _^_}
 use mathlib.Core.Bool.{Bool, _||_}
 use mathlib.Core.List.{List}
 use lib.ListN.{getD}
-use lib.IntN.{ℤ, pos, _+ℤ_, _*ℤ_}
+use lib.IntN.{ℤ, pos, _*ℤ_}
 use Rattle.laws.specs.Choice.{if_then_else_, _=?_}
 use Rattle.laws.specs.Bits.{combine, onesIn}
-use Rattle.laws.specs.Integers.{value, sumZ, int32, word32, clamp}
+use Rattle.laws.specs.Integers.{value, sumZ}
 use Rattle.laws.specs.Lists.{tab, blocks}
 use Rattle.kinds.specs.Kinds.{entryOf, roleOf, rows, columns}
 use Rattle.warp.specs.Buffers.{index, unpackedOf, packedOf}
+use Rattle.cell.specs.Limits.{cellOf}
 
 -- A, B, C and D in steps are warp buffers: the entry of a buffer's matrix at a row and a column.
 unfoldable pub entryIn : (kind role : ℕ) → List ℕ → (row column : ℕ) → ℕ
@@ -46,12 +47,9 @@ unfoldable pub added : (kind signs mode : ℕ) → (a b : List ℕ) → (row col
 added kind signs mode a b row column =
     if oneBit kind then pos (onesIn (combinedBits kind mode a b row column)) else products kind signs a b row column
 
--- Mode 0 wraps the exact result to 32 bits, mode 1 clamps it once, at the end; the one-bit form wraps. C and D are signed.
+-- The one-bit form wraps in both modes.
 abbrev pub limit : (kind mode : ℕ) → ℕ
 limit kind mode = if oneBit kind then 0 else mode
-
-unfoldable pub cellOf : (mode c : ℕ) → ℤ → ℕ
-cellOf mode c exact = word32 (if mode =? 0 then int32 c +ℤ exact else clamp (int32 c +ℤ exact))
 
 -- D at (r, c) is C at (r, c) plus what the block adds there.
 unfoldable pub resultAt : (kind signs mode : ℕ) → (a b c : List ℕ) → (row column : ℕ) → ℕ

@@ -7,11 +7,7 @@ ghost use Rattle.kinds.specs.Refusals.{told, after, given};
 ghost use Rattle.warp.specs.Buffers.{wordsNeeded};
 ghost use Rattle.step.specs.Step.{unsignedA, unsignedB, stepped};
 ghost use Rattle.step.specs.Answers.{selected, fourBuffers, stepAnswer, plainAnswer, Ready, Sized};
-ghost use Rattle.step.specs.Sums.{offsetOf};
-
-mod ones;
-mod sums;
-
+ghost use Rattle.sums.specs.Sums.{offsetOf};
 use kinds::Kind;
 use kinds::Lane;
 use kinds::Layout;

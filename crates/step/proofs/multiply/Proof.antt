@@ -4,7 +4,7 @@ use mathlib.Core.Path.{_≡_, refl, sym, ap, _∙_}
 use mathlib.Core.Bool.{Bool}
 use Prim.Native.Nat.{_-_, _*_, _^_, _<_, _≤_}
 use Rattle.kinds.specs.declared.Layout.{Layout}
-use Rattle.step.specs.Sums.{offsetOf}
+use Rattle.sums.specs.Sums.{offsetOf}
 use Rattle.step.proofs.Multiplied.{multiplied, sides, numbers}
 use Rattle.step.proofs.multiply.Statement.{statement}
 use Rattle.step.proofs.multiply.Tie as tie

@@ -1,0 +1,9 @@
+-- Document 01, 'One step': the limit of the exact result. Assumes nothing.
+use Prim.Native.Nat.{ℕ}
+use lib.IntN.{ℤ, _+ℤ_}
+use Rattle.laws.specs.Choice.{if_then_else_, _=?_}
+use Rattle.laws.specs.Integers.{int32, word32, clamp}
+
+-- Mode 0 wraps the exact result to 32 bits, mode 1 clamps it once, at the end. C and D are signed.
+unfoldable pub cellOf : (mode c : ℕ) → ℤ → ℕ
+cellOf mode c exact = word32 (if mode =? 0 then int32 c +ℤ exact else clamp (int32 c +ℤ exact))
