@@ -31,7 +31,7 @@ use Rattle.step.specs.Answers.{stepAnswer}
 use Rattle.step.proofs.Accepted.{step-accepted}
 use Rattle.step.proofs.Matrices.{legal, entry-is}
 use Rattle.step.proofs.Promises.{result-at}
-use Rattle.figures.specs.Figures.{uniform, Steps}
+use Rattle.starred.specs.Figures.{uniform, Steps}
 
 length-is : (k r w : ℕ) → length (uniform k r w) ≡ wordsNeeded k r
 unfolding uniform

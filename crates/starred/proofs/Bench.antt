@@ -11,8 +11,8 @@ use Rattle.kinds.specs.Rule.{laneOf, elementOf}
 use Rattle.kinds.specs.Answers.{placeAnswer, findAnswer}
 use Rattle.cell.specs.Limits.{cellOf}
 use Rattle.step.specs.Answers.{stepAnswer}
-use Rattle.figures.specs.Figures.{Figure, place, find, step, Right, All, starred}
-use Rattle.figures.proofs.Uniform.{addedAll, Computed, steps}
+use Rattle.starred.specs.Figures.{Figure, place, find, step, Right, All, starred}
+use Rattle.starred.proofs.Uniform.{addedAll, Computed, steps}
 
 -- what antt computes of a figure
 abbrev Test : Figure → Type 0

@@ -1,0 +1,1 @@
+// The starred bench figures as one statement: definitions and proofs, no code.
