@@ -21,7 +21,7 @@ use Rattle.cell.specs.Limits.{cellOf}
 use Rattle.step.specs.Answers.{Ready}
 use Rattle.sums.specs.Sums.{offsetOf, digit, digitAt, offsetDot, digitsWord}
 use Rattle.sums.proofs.Offsets.{element-lt, dot-digits, offset-ext}
-use Rattle.step.proofs.Matrices.{entry-A, entry-B, entry-C, stepped-is, legal, depth-is, depth-small, pairs, bits-pos, bits-le, columns-half, halves-pos, words-pos, room-A, room-B}
+use Rattle.step.proofs.Matrices.{entry-A, entry-B, entry-C, stepped-is, legal, depth-is, depth-small, pairs, bits-pos, bits-le, columns-half, halves-pos, words-pos, room-A, room-B, two-halves, four-words}
 
 -- a digit stands where its major and minor number say
 digit-at : (m n : ℕ) (g : ℕ → ℕ → ℕ) (z : List ℕ) → m * n ≤ length z → (x y : ℕ) → x < m → y < n → getD (fills 0 (m * n) (blocks n g) z) (x * n + y) 0 ≡ g x y
@@ -120,32 +120,37 @@ module _ (k signs mode : ℕ) (ok : Ready k signs mode) (two : 2 ≤ k) (a b c x
       let en : m ≡ n = em ∙ sym (depth-is k (ok .low) (ok .high)) in
       rw (ex, ey, en, eu, ev) words-are
 
-module _ (k signs mode : ℕ) (ok : Ready k signs mode) (two : 2 ≤ k) (f g h : Layout) (ef : f ≡ layoutAt k 0) (eg : g ≡ layoutAt k 1) (eh : h ≡ layoutAt k 2) where
-  pub multiplied : (a b c x₀ y₀ : List ℕ) → ((x : ℕ) → getD c x 0 < 2 ^ 32) → length x₀ ≡ 1024 → length y₀ ≡ 1024
-      → (m u v : ℕ) (xs ys : List ℕ) → m ≡ f .spans * 4 * f .side → u ≡ offsetOf (unsignedA signs) (2 ^ (f .bits - 1)) → v ≡ offsetOf (unsignedB signs) (2 ^ (f .bits - 1))
-      → xs ≡ fills 0 (f .halves * 8 * m) (blocks m (digitAt (f .bits) (f .words) (f .side) (f .halves) u a)) x₀
-      → ys ≡ fills 0 (g .halves * 8 * m) (blocks m (digitAt (f .bits) (g .words) (g .side) (g .halves) v b)) y₀
-      → tab (lanes * h .words) (blocks (h .words) (digitsWord mode m u v (h .words) (h .halves) xs ys c)) ≡ stepped k signs mode a b c
-  multiplied a b c x₀ y₀ fit lx ly = rw (ef, eg, eh) (worked k signs mode ok two a b c x₀ y₀ fit lx ly)
+module _ (k signs mode : ℕ) (ok : Ready k signs mode) (two : 2 ≤ k) (f g : Layout) (ef : f ≡ layoutAt k 0) (eg : g ≡ layoutAt k 1) where
+  -- the words of D, w a lane in z halves, which are C's numbers
+  module _ (w z : ℕ) (ew : entryOf k .7 ≡ w) (ez : entryOf k .0 / 8 ≡ z) where
+    pub multiplied : (a b c x₀ y₀ : List ℕ) → ((x : ℕ) → getD c x 0 < 2 ^ 32) → length x₀ ≡ 1024 → length y₀ ≡ 1024
+        → (m u v : ℕ) (xs ys : List ℕ) → m ≡ f .spans * 4 * f .side → u ≡ offsetOf (unsignedA signs) (2 ^ (f .bits - 1)) → v ≡ offsetOf (unsignedB signs) (2 ^ (f .bits - 1))
+        → xs ≡ fills 0 (f .halves * 8 * m) (blocks m (digitAt (f .bits) (f .words) (f .side) (f .halves) u a)) x₀
+        → ys ≡ fills 0 (g .halves * 8 * m) (blocks m (digitAt (f .bits) (g .words) (g .side) (g .halves) v b)) y₀
+        → tab (lanes * w) (blocks w (digitsWord mode m u v w z xs ys c)) ≡ stepped k signs mode a b c
+    multiplied a b c x₀ y₀ fit lx ly = rw (ef, eg, ← ew, ← ez) (worked k signs mode ok two a b c x₀ y₀ fit lx ly)
+
+  pub halves-C : entryOf k .0 / 8 ≡ 2
+  halves-C = two-halves k (ok .low) (ok .high) two
+
+  pub words-C : entryOf k .7 ≡ 4
+  words-C = four-words k (ok .low) (ok .high) two
 
   -- what the workers ask of these numbers
   pub sides : Sane (f .bits) (g .words) (g .side) (g .halves) (g .spans)
   sides = rw (ef, eg) (sane k 1 (legal k (ok .low) (ok .high) 1 (omega arith)))
 
   pub numbers : (f .bits ≤ 8) × (0 < f .bits) × (f .spans * 4 * f .side ≤ 64) × (f .spans * 4 * f .side ≡ g .spans * 4 * g .side)
-      × (f .halves * 8 * (f .spans * 4 * f .side) ≤ 1024) × (g .halves * 8 * (f .spans * 4 * f .side) ≤ 1024) × (0 < h .halves) × (h .halves ≤ 2) × (h .words ≡ 2 * h .halves)
+      × (f .halves * 8 * (f .spans * 4 * f .side) ≤ 1024) × (g .halves * 8 * (f .spans * 4 * f .side) ≤ 1024)
   numbers =
       let o = ok .low in
       let q = ok .high in
       let d = depth-is k o q in
-      rw (ef, eg, eh) (
+      rw (ef, eg) (
         bits-le k o q,
         bits-pos k o q,
         omega (arith, d, depth-small k o q two),
         refl,
         subst (λ (n : ℕ). entryOf k .0 / 8 * 8 * n ≤ 1024) d (room-A k o q),
         subst (λ (n : ℕ). entryOf k .1 / 8 * 8 * n ≤ 1024) d (room-B k o q),
-        halves-pos k o q,
-        sane k 2 (legal k o q 2 (omega arith)) .halves-le,
-        pairs k o q,
       )

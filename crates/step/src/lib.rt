@@ -78,7 +78,7 @@ fn offset(unsigned: bool, bits: usize) -> u64
     1 << (bits - 1)
 }
 
-// The integer kinds: A by rows and B by columns are unpacked once, into digits.
+// The integer kinds: A by rows and B by columns are unpacked once, into digits. A lane of each has four words of C, in two halves.
 fn multiply(kind: Kind, signs: Signs, mode: Mode, a: &[u32], b: &[u32], c: &[u32], d: &mut [u32])
     requires { ⌜ Ready (kind .0) (signs .0) (mode .0) × (2 ≤ kind .0) ⌝ }
     requires { ⌜ Sized (kind .0) (length (now a)) (length (now b)) (length (now c)) (length (now d)) ⌝ }
@@ -86,7 +86,6 @@ fn multiply(kind: Kind, signs: Signs, mode: Mode, a: &[u32], b: &[u32], c: &[u32
 {
     let f = Layout::of(kind, Role(Role::A));
     let g = Layout::of(kind, Role(Role::B));
-    let h = Layout::of(kind, Role(Role::C));
     let bits = f.bits;
     let n = f.spans * 4 * f.side;
     let ha = offset(unsigned_a(signs.0), bits);
@@ -95,18 +94,7 @@ fn multiply(kind: Kind, signs: Signs, mode: Mode, a: &[u32], b: &[u32], c: &[u32
     let mut y: [u8; 1024] = [0; 1024];
     sums::digits_by_width(a, &mut x, bits, f.words, f.side, f.halves, f.spans, ha, n);
     sums::digits_by_width(b, &mut y, bits, g.words, g.side, g.halves, g.spans, hb, n);
-    sums::cells(
-        mode.0,
-        &x,
-        &y,
-        n,
-        ha as u32,
-        hb as u32,
-        h.words,
-        h.halves,
-        c,
-        d,
-    );
+    sums::cells(mode.0, &x, &y, n, ha as u32, hb as u32, 4, 2, c, d);
 }
 
 // The one-bit kind. Its numbers are written out: a lane has one word of A and one of B and two of C, and A has one half.

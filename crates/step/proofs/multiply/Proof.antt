@@ -2,39 +2,34 @@
 use borrow.Author.Needs.{needs}
 use mathlib.Core.Path.{_≡_, refl, sym, ap, _∙_}
 use mathlib.Core.Bool.{Bool}
-use Prim.Native.Nat.{_-_, _*_, _^_, _<_, _≤_}
+use Prim.Native.Nat.{ℕ, _-_, _*_, _^_, _<_, _≤_}
+use native.Mathlib.Omega.{arith}
 use Rattle.kinds.specs.declared.Layout.{Layout}
 use Rattle.sums.specs.Sums.{offsetOf}
-use Rattle.step.proofs.Multiplied.{multiplied, sides, numbers}
+use Rattle.step.proofs.Multiplied.{multiplied, sides, numbers, halves-C, words-C}
 use Rattle.step.proofs.multiply.Statement.{statement}
 use Rattle.step.proofs.multiply.Tie as tie
 
--- the numbers of the three layouts, from where the third is known
-module _ (c : tie.After-of3) where
+-- the numbers of the two layouts, from where the second is known
+module _ (c : tie.After-of2) where
   abbrev S : tie.Start
-  S = c .before .before .before .before .before .before .before
+  S = c .before .before .before .before .before .before
 
   abbrev f : Layout
-  f = c .before .before .of .result
+  f = c .before .of .result
 
   abbrev g : Layout
-  g = c .before .of2 .result
-
-  abbrev h : Layout
-  h = c .of3 .result
+  g = c .of2 .result
 
   known : (f .bits ≤ 8) × (0 < f .bits) × (f .spans * 4 * f .side ≤ 64) × (f .spans * 4 * f .side ≡ g .spans * 4 * g .side)
-      × (f .halves * 8 * (f .spans * 4 * f .side) ≤ 1024) × (g .halves * 8 * (f .spans * 4 * f .side) ≤ 1024) × (0 < h .halves) × (h .halves ≤ 2) × (h .words ≡ 2 * h .halves)
-  known = numbers _ _ _ (S .pre .0 .0) (S .pre .0 .1) _ _ _ (c .before .before .of .ensures .0) (c .before .of2 .ensures .0) (c .of3 .ensures .0)
+      × (f .halves * 8 * (f .spans * 4 * f .side) ≤ 1024) × (g .halves * 8 * (f .spans * 4 * f .side) ≤ 1024)
+  known = numbers _ _ _ (S .pre .0 .0) (S .pre .0 .1) _ _ (c .before .of .ensures .0) (c .of2 .ensures .0)
 
 of-requires : tie.Need-of-requires
 of-requires c κs = search needs
 
 of-requires-2 : tie.Need-of-requires-2
 of-requires-2 c κs = search needs
-
-of-requires-3 : tie.Need-of-requires-3
-of-requires-3 c κs = search needs
 
 mul-n : tie.Need-mul-n
 mul-n c = search needs
@@ -60,7 +55,7 @@ digits-by-width-requires c κs =
     let t = o .before .before .before .before .before .before in
     let k = known t in
     let s = S t in
-    ((t .before .before .of .ensures .1, k .0, s .pre .1 .of-a ∙ ap (λ (f : Layout). 32 * f .words) (sym (t .before .before .of .ensures .0)), o .before .before .offset .ensures .1, refl), (refl, k .4))
+    ((t .before .of .ensures .1, k .0, s .pre .1 .of-a ∙ ap (λ (f : Layout). 32 * f .words) (sym (t .before .of .ensures .0)), o .before .before .offset .ensures .1, refl), (refl, k .4))
 
 digits-by-width-requires-2 : tie.Need-digits-by-width-requires-2
 digits-by-width-requires-2 c κs =
@@ -69,9 +64,9 @@ digits-by-width-requires-2 c κs =
     let k = known t in
     let s = S t in (
       (
-        sides _ _ _ (s .pre .0 .0) (s .pre .0 .1) _ _ _ (t .before .before .of .ensures .0) (t .before .of2 .ensures .0) (t .of3 .ensures .0),
+        sides _ _ _ (s .pre .0 .0) (s .pre .0 .1) _ _ (t .before .of .ensures .0) (t .of2 .ensures .0),
         k .0,
-        s .pre .1 .of-b ∙ ap (λ (f : Layout). 32 * f .words) (sym (t .before .of2 .ensures .0)),
+        s .pre .1 .of-b ∙ ap (λ (f : Layout). 32 * f .words) (sym (t .of2 .ensures .0)),
         o .offset2 .ensures .1,
         refl,
       ),
@@ -89,9 +84,10 @@ cells-requires c κs =
     let o = c .before .before .before .before .before .before .before in
     let t = o .before .before .before .before .before .before in
     let k = known t in
-    let s = S t in (
-      (s .pre .0 .0 .mode-le, k .2, o .before .before .offset .ensures .1, o .offset2 .ensures .1, k .6, k .7, k .8),
-      (s .pre .1 .of-c ∙ ap (λ (f : Layout). 32 * f .words) (sym (t .of3 .ensures .0)), s .pre .1 .of-d ∙ ap (λ (f : Layout). 32 * f .words) (sym (t .of3 .ensures .0))),
+    let s = S t in
+    let l = ap (λ (w : ℕ). 32 * w) (words-C _ _ _ (s .pre .0 .0) (s .pre .0 .1) _ _ (t .before .of .ensures .0) (t .of2 .ensures .0)) in (
+      (s .pre .0 .0 .mode-le, k .2, o .before .before .offset .ensures .1, o .offset2 .ensures .1, omega arith, omega arith, refl),
+      (s .pre .1 .of-c ∙ l, s .pre .1 .of-d ∙ l),
     )
 
 same-length : tie.Need-same-length
@@ -104,8 +100,10 @@ returns c =
     let t = o .before .before .before .before .before .before in
     let s = S t in
     w .cells .ensures
-    ∙ multiplied _ _ _ (s .pre .0 .0) (s .pre .0 .1) _ _ _ (t .before .before .of .ensures .0) (t .before .of2 .ensures .0) (t .of3 .ensures .0) _ _ _ _ _
-    (λ x. t .before .before .before .before .shared-slice-known3 .given x .fits) refl refl _ _ _ _ _ refl
+    ∙ multiplied _ _ _ (s .pre .0 .0) (s .pre .0 .1) _ _ (t .before .of .ensures .0) (t .of2 .ensures .0) 4 2
+    (words-C _ _ _ (s .pre .0 .0) (s .pre .0 .1) _ _ (t .before .of .ensures .0) (t .of2 .ensures .0))
+    (halves-C _ _ _ (s .pre .0 .0) (s .pre .0 .1) _ _ (t .before .of .ensures .0) (t .of2 .ensures .0)) _ _ _ _ _
+    (λ x. t .before .before .before .shared-slice-known3 .given x .fits) refl refl _ _ _ _ _ refl
     (o .before .before .offset .ensures .0 ∙ ap (λ (u : Bool). offsetOf u (2 ^ (f t .bits - 1))) (o .before .before .before .unsigned-a .ensures))
     (o .offset2 .ensures .0 ∙ ap (λ (u : Bool). offsetOf u (2 ^ (f t .bits - 1))) (o .before .unsigned-b .ensures))
     (w .before .before .before .before .before .before .digits-by-width .ensures) (w .before .before .before .before .digits-by-width2 .ensures)
@@ -116,7 +114,6 @@ multiply-spec =
     (tie.spec
     of-requires
     of-requires-2
-    of-requires-3
     mul-n
     mul-n-2
     unsigned-a-requires
