@@ -1,0 +1,101 @@
+-- Demand 3, a sentence above its statement: '0 to 4,096 blocks fed into a newly opened run: with wrapping (and always in the one-bit form) each
+-- sum is the signed 32-bit number congruent to start plus all exact products modulo 2^32, in every order; with saturation, where no contribution
+-- to a place is negative or none is positive, the exact total clamped, in every order; otherwise the total clamped after each block in the order
+-- fed.' Every order is every permutation of the list; Wraps is congruence modulo 2^32. Assumes nothing.
+use mathlib.Core.Path.{_≡_, refl, sym, ap, subst, _∙_}
+use mathlib.Core.Logic.{_↔_, _⊎_}
+use mathlib.Core.List.{List, List·Permᴰ}
+use Prim.Native.Nat.{ℕ, _^_, _<_, _≤_}
+use native.Mathlib.Omega.{arith}
+use borrow.Author.Tests.{ne-eqb}
+use lib.IntN.{pos, _+ℤ_, _*ℤ_}
+use lib.ListN.{length}
+use Rattle.laws.specs.Bits.{combine, onesIn}
+use Rattle.laws.specs.Integers.{value, sumZ, int32, clamp}
+use Rattle.laws.specs.Lists.{tab}
+use Rattle.laws.specs.Totals.{total, clampedEach, NoneNegative, NonePositive, Wraps}
+use Rattle.laws.proofs.Integers.{wraps-only}
+use Rattle.kinds.specs.Kinds.{entryOf, roleOf, rows, columns}
+use Rattle.kinds.specs.Refusals.{given, refusal}
+use Rattle.step.specs.Step.{entryIn, depth, half, unsignedA, unsignedB, products, combinedBits, added}
+use Rattle.step.specs.Answers.{Ready}
+use Rattle.step.proofs.Matrices.{entry-lt}
+use Rattle.run.specs.declared.Run.{Run}
+use Rattle.run.specs.Runs.{zeros, withUsed, usedOf, openedRun}
+use Rattle.run.specs.Answers.{openAnswer, feedAnswer}
+use Rattle.run.specs.Blocks.{Block, fedAll, AllAccepted, contributions, sumAt}
+use Rattle.run.proofs.Laws.{open-accepted}
+use Rattle.run.proofs.Demand.{fed-kept}
+use Rattle.run.proofs.Promises as runs
+use Rattle.promises.specs.Blocks.{AllSized}
+use Rattle.promises.proofs.Accepted.{all-accepted, all-sized}
+
+-- What a block contributes to a place: the exact products, or in the one-bit form the count of ones.
+pub contribution-integer : (k signs mode : ℕ) → 2 ≤ k → (x : Block) (row column : ℕ)
+    → added k signs mode (x .a) (x .b) row column
+    ≡ sumZ (depth k) (λ j. value (unsignedA signs) (half k) (entryIn k 0 (x .a) row j) *ℤ value (unsignedB signs) (half k) (entryIn k 1 (x .b) j column))
+unfolding added products
+contribution-integer k signs mode h x row column = simp (ne-eqb k 1 (λ e. omega arith))
+
+pub contribution-one-bit : (signs mode : ℕ) (x : Block) (row column : ℕ)
+    → added 1 signs mode (x .a) (x .b) row column ≡ pos (onesIn (tab 128 (λ j. combine mode (entryIn 1 0 (x .a) row j) (entryIn 1 1 (x .b) j column))))
+unfolding added combinedBits
+contribution-one-bit signs mode x row column = refl
+
+-- a newly opened run
+module _ (k signs mode : ℕ) (c : List ℕ) (opened : openAnswer k signs mode (length c) ≡ given tt) where
+  ready : Ready k signs mode
+  ready = open-accepted k signs mode (length c) opened .0
+
+  -- '0 to 4,096 blocks': blocks fed into it are accepted throughout exactly when there are at most 4,096, each of the lengths needed.
+  pub accepted-all : (xs : List Block) → AllAccepted (openedRun k signs mode c) xs ↔ ((length xs ≤ 4096) × AllSized k xs)
+  unfolding openedRun
+  accepted-all xs = (there, λ s. all-accepted k signs mode ready 0 (withUsed c zeros) xs (omega (arith, s .0)) (s .1))
+    where
+      there : AllAccepted (openedRun k signs mode c) xs → (length xs ≤ 4096) × AllSized k xs
+      there a = let s = all-sized k signs mode ready 0 (withUsed c zeros) xs (omega arith) a in (omega (arith, s .0), s .1)
+
+  -- The number in the run is the number of blocks,
+  pub counted : (xs : List Block) → length xs ≤ 4096 → AllSized k xs → fedAll (openedRun k signs mode c) xs .blocks ≡ length xs
+  counted xs n s = runs.counted k signs mode c opened xs (accepted-all xs .1 (n, s))
+
+  -- and after 4,096 blocks every further one is refused 9.
+  pub no-more : (xs : List Block) → length xs ≡ 4096 → AllSized k xs → (a b : List ℕ) → feedAnswer (fedAll (openedRun k signs mode c) xs) (length a) (length b) ≡ refusal 9 0
+  no-more xs n s a b = runs.no-more k signs mode c opened xs (accepted-all xs .1 (omega arith, s)) n (length a) (length b)
+
+  -- at a place of D: the start there is C's entry, and each block contributes its exact products or its bit count
+  module _ (row column : ℕ) (hr : row < rows (entryOf k) (roleOf 2)) (hc : column < columns (entryOf k) (roleOf 2)) where
+    -- 'with wrapping (and always in the one-bit form) each sum is the signed 32-bit number congruent to start plus all exact products modulo 2^32,
+    -- in every order'
+    pub wrapped-total : (mode ≡ 0) ⊎ (k ≡ 1) → (xs ys : List Block) → length xs ≤ 4096 → AllSized k xs → List·Permᴰ xs ys
+        → Wraps (sumAt (fedAll (openedRun k signs mode c) ys) row column) (int32 (entryIn k 2 c row column) +ℤ total (contributions k signs mode row column xs))
+    wrapped-total w xs ys n s d = runs.wrapped-total k signs mode c opened row column hr hc w xs ys (accepted-all xs .1 (n, s)) d .1
+
+    -- a sum is the number of a 32-bit word
+    below : (xs : List Block) → AllAccepted (openedRun k signs mode c) xs
+        → entryIn (fedAll (openedRun k signs mode c) xs .kind .0) 2 (usedOf (fedAll (openedRun k signs mode c) xs)) row column < 2 ^ 32
+    unfolding openedRun
+    below xs a =
+        let s = fed-kept k signs mode ready 0 (withUsed c zeros) xs a in
+        subst (λ (r : Run). entryIn (r .kind .0) 2 (usedOf (fedAll (openedRun k signs mode c) xs)) row column < 2 ^ 32) (sym (s .1))
+        (entry-lt k (ready .low) (ready .high) (usedOf (fedAll (openedRun k signs mode c) xs)) row column hr hc)
+
+    -- and no other signed 32-bit number is.
+    pub wrapped-only : (mode ≡ 0) ⊎ (k ≡ 1) → (xs ys : List Block) → length xs ≤ 4096 → AllSized k xs → List·Permᴰ xs ys
+        → (w : ℕ) → w < 2 ^ 32 → Wraps (int32 w) (int32 (entryIn k 2 c row column) +ℤ total (contributions k signs mode row column xs))
+        → int32 w ≡ sumAt (fedAll (openedRun k signs mode c) ys) row column
+    unfolding sumAt
+    wrapped-only one xs ys n s d w l h =
+        let t = runs.wrapped-total k signs mode c opened row column hr hc one xs ys (accepted-all xs .1 (n, s)) d in
+        ap int32 (wraps-only w _ l h ∙ sym (wraps-only _ _ (below ys (t .0)) (t .1)))
+
+    -- 'with saturation, where no contribution to a place is negative or none is positive, the exact total clamped, in every order'
+    pub clamped-total : 2 ≤ k → mode ≡ 1 → (xs ys : List Block) → length xs ≤ 4096 → AllSized k xs → List·Permᴰ xs ys
+        → NoneNegative (contributions k signs mode row column xs) ⊎ NonePositive (contributions k signs mode row column xs)
+        → sumAt (fedAll (openedRun k signs mode c) ys) row column ≡ clamp (int32 (entryIn k 2 c row column) +ℤ total (contributions k signs mode row column xs))
+    clamped-total two one xs ys n s d h = runs.clamped-total k signs mode c opened row column hr hc two one xs ys (accepted-all xs .1 (n, s)) d h .1
+
+    -- 'otherwise the total clamped after each block in the order fed'
+    pub clamped-each : 2 ≤ k → mode ≡ 1 → (xs : List Block) → length xs ≤ 4096 → AllSized k xs
+        → sumAt (fedAll (openedRun k signs mode c) xs) row column ≡ clampedEach (int32 (entryIn k 2 c row column)) (contributions k signs mode row column xs)
+    clamped-each two one xs n s = runs.clamped-each k signs mode c opened row column hr hc two one xs (accepted-all xs .1 (n, s))

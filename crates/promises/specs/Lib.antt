@@ -1,0 +1,4 @@
+pub mod Calls
+pub mod Order
+pub mod Table
+pub mod Blocks
