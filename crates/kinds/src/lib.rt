@@ -1,6 +1,6 @@
 // The kinds of document 01: their table, the place of an element, and the reverse question.
 ghost use mathlib.Core.Path.{_≡_};
-ghost use Prim.Native.Nat.{_*_, _<_, _≤_};
+ghost use Prim.Native.Nat.{_*_, _/_, _%_, _<_, _≤_};
 ghost use Rattle.kinds.specs.Kinds.{kinds, entryOf, roleOf, lanes};
 ghost use Rattle.kinds.specs.Rule.{spread, sideOf, layoutOf, elementsOf, majors, minors, Laid, major, minor, laneOf, elementOf};
 ghost use Rattle.kinds.specs.Refusals.{numberOf, detailOf};
@@ -237,21 +237,42 @@ pub fn layout_of(kind: Kind, role: Role) -> Known
     Known::As(Layout::of(kind, role))
 }
 
+// The runs of elements side by side take a layout's halves in turn. There are one or two, so that neither number costs a division.
+fn half_of(halves: usize, run: usize) -> usize
+    requires { ⌜ (0 < halves) × (halves ≤ 2) ⌝ }
+    ensures { λ r. ⌜ r ≡ run % halves ⌝ }
+{
+    if halves == 1 {
+        return 0;
+    }
+    run % 2
+}
+
+fn span_of(halves: usize, run: usize) -> usize
+    requires { ⌜ (0 < halves) × (halves ≤ 2) ⌝ }
+    ensures { λ r. ⌜ r ≡ run / halves ⌝ }
+{
+    if halves == 1 {
+        return run;
+    }
+    run / 2
+}
+
 // The major and the minor number of an element.
 pub fn across(side: usize, halves: usize, lane: usize, i: usize) -> usize
     requires { ⌜ (0 < side) × (0 < halves) × (halves ≤ 2) × (lane < lanes) ⌝ }
     ensures is { λ r. ⌜ r ≡ major side halves lane i ⌝ }
     ensures small { λ r. ⌜ r < 16 ⌝ }
 {
-    i / side % halves * 8 + lane / Lane::QUAD
+    half_of(halves, i / side) * 8 + lane / Lane::QUAD
 }
 
 pub fn along(side: usize, halves: usize, lane: usize, i: usize) -> usize
-    requires { ⌜ (0 < side) × (side ≤ 32) × (0 < halves) × (i ≤ 128) ⌝ }
+    requires { ⌜ (0 < side) × (side ≤ 32) × (0 < halves) × (halves ≤ 2) × (i ≤ 128) ⌝ }
     ensures is { λ r. ⌜ r ≡ minor side halves lane i ⌝ }
     ensures small { λ r. ⌜ r < 1024 ⌝ }
 {
-    (i / side / halves * Lane::QUAD + lane % Lane::QUAD) * side + i % side
+    (span_of(halves, i / side) * Lane::QUAD + lane % Lane::QUAD) * side + i % side
 }
 
 fn place_in(f: Layout, lane: Lane, element: Element) -> Placed

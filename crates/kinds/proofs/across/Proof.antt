@@ -1,28 +1,31 @@
 -- The major number is put together as the rule says; its high digit is below the halves. Assumes nothing.
 use borrow.Author.Needs.{needs}
-use mathlib.Core.Path.{refl}
-use Prim.Native.Nat.{_/_}
+use mathlib.Core.Path.{_≡_, ap, _∙_}
+use Prim.Native.Nat.{ℕ, _+_, _*_, _/_, _<_}
 use native.Mathlib.Nat.{mod-lt}
 use native.Mathlib.Omega.{arith}
 use Rattle.kinds.specs.Rule.{major}
 use Rattle.kinds.proofs.across.Statement.{statement}
 use Rattle.kinds.proofs.across.Tie as tie
 
-div-result : tie.Need-div-result
-div-result c = search needs
+small : (c : tie.After-half-of) → c .half-of .result < 2
+small c = let s = c .before in omega (arith, mod-lt (s .args .i / s .args .side) (s .pre .1), s .pre, c .half-of .ensures)
 
-rem-result : tie.Need-rem-result
-rem-result c = search needs
+div-half-of : tie.Need-div-half-of
+div-half-of c = search needs
+
+half-of-requires : tie.Need-half-of-requires
+half-of-requires c κs = search needs
 
 mul-result : tie.Need-mul-result
-mul-result c = omega (arith, mod-lt (c .args .i / c .args .side) (c .pre .1))
+mul-result c = omega (arith, small c)
 
 add-result : tie.Need-add-result
-add-result c = omega (arith, mod-lt (c .args .i / c .args .side) (c .pre .1))
+add-result c = omega (arith, small c)
 
 returns : tie.Need-returns
 unfolding major
-returns c = (refl, omega (arith, mod-lt (c .args .i / c .args .side) (c .pre .1)))
+returns c = (ap (λ (n : ℕ). n * 8 + c .before .args .lane / 4) (c .half-of .ensures), omega (arith, small c))
 
 pub across-spec : {M : Type 1} → statement M
-across-spec = tie.close (tie.spec div-result rem-result mul-result add-result returns)
+across-spec = tie.close (tie.spec div-half-of half-of-requires mul-result add-result returns)

@@ -84,7 +84,7 @@ rem-along : tie.Need-rem-along Inv-loop μ-loop
 rem-along c = some (c .before)
 
 along-requires : tie.Need-along-requires Inv-loop μ-loop
-along-requires c κs = (search needs, search needs, search needs, omega (arith, place (c .before) .element))
+along-requires c κs = (search needs, search needs, search needs, search needs, omega (arith, place (c .before) .element))
 
 mul-dot : tie.Need-mul-dot Inv-loop μ-loop
 mul-dot c = omega (arith, row-ends c)
