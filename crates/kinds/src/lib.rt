@@ -1,10 +1,12 @@
 // The kinds of document 01: their table, the place of an element, and the reverse question.
 ghost use mathlib.Core.Path.{_≡_};
-ghost use Prim.Native.Nat.{_*_, _/_, _%_, _<_, _≤_};
+ghost use Prim.Native.Nat.{_<_, _≤_};
 ghost use Rattle.kinds.specs.Kinds.{kinds, entryOf, roleOf, lanes};
-ghost use Rattle.kinds.specs.Rule.{spread, sideOf, layoutOf, elementsOf, majors, minors, Laid, major, minor, laneOf, elementOf};
+ghost use Rattle.kinds.specs.Rule.{spread, sideOf, layoutOf, elementsOf, Laid};
 ghost use Rattle.kinds.specs.Refusals.{numberOf, detailOf};
 ghost use Rattle.kinds.specs.Answers.{toldLayout, toldPlace, toldHolder, layoutAnswer, placeAnswer, placeBy, findAnswer, findBy};
+
+pub mod rule;
 
 // Every number that could be taken for another has its own type. Any u32 may stand in it: what is out of range is refused.
 pub struct Kind(pub u32);
@@ -237,44 +239,6 @@ pub fn layout_of(kind: Kind, role: Role) -> Known
     Known::As(Layout::of(kind, role))
 }
 
-// The runs of elements side by side take a layout's halves in turn. There are one or two, so that neither number costs a division.
-fn half_of(halves: usize, run: usize) -> usize
-    requires { ⌜ (0 < halves) × (halves ≤ 2) ⌝ }
-    ensures { λ r. ⌜ r ≡ run % halves ⌝ }
-{
-    if halves == 1 {
-        return 0;
-    }
-    run % 2
-}
-
-fn span_of(halves: usize, run: usize) -> usize
-    requires { ⌜ (0 < halves) × (halves ≤ 2) ⌝ }
-    ensures { λ r. ⌜ r ≡ run / halves ⌝ }
-{
-    if halves == 1 {
-        return run;
-    }
-    run / 2
-}
-
-// The major and the minor number of an element.
-pub fn across(side: usize, halves: usize, lane: usize, i: usize) -> usize
-    requires { ⌜ (0 < side) × (0 < halves) × (halves ≤ 2) × (lane < lanes) ⌝ }
-    ensures is { λ r. ⌜ r ≡ major side halves lane i ⌝ }
-    ensures small { λ r. ⌜ r < 16 ⌝ }
-{
-    half_of(halves, i / side) * 8 + lane / Lane::QUAD
-}
-
-pub fn along(side: usize, halves: usize, lane: usize, i: usize) -> usize
-    requires { ⌜ (0 < side) × (side ≤ 32) × (0 < halves) × (halves ≤ 2) × (i ≤ 128) ⌝ }
-    ensures is { λ r. ⌜ r ≡ minor side halves lane i ⌝ }
-    ensures small { λ r. ⌜ r < 1024 ⌝ }
-{
-    (span_of(halves, i / side) * Lane::QUAD + lane % Lane::QUAD) * side + i % side
-}
-
 fn place_in(f: Layout, lane: Lane, element: Element) -> Placed
     requires { ⌜ Laid f ⌝ }
     ensures { λ r. ⌜ toldPlace r ≡ placeBy f (lane .0) (element .0) ⌝ }
@@ -287,8 +251,8 @@ fn place_in(f: Layout, lane: Lane, element: Element) -> Placed
     if f.spans * f.halves * f.side <= i {
         return Placed::Refused(Refusal::Outside);
     }
-    let x = across(f.side, f.halves, l, i) as u32;
-    let y = along(f.side, f.halves, l, i) as u32;
+    let x = rule::across(f.side, f.halves, l, i) as u32;
+    let y = rule::along(f.side, f.halves, l, i) as u32;
     if f.turned {
         return Placed::At(Row(y), Column(x));
     }
@@ -305,23 +269,6 @@ pub fn place(kind: Kind, role: Role, lane: Lane, element: Element) -> Placed
     }
 }
 
-// The lane and the element of a major number x and a minor number y.
-pub fn lane_at(side: usize, x: usize, y: usize) -> usize
-    requires { ⌜ 0 < side ⌝ }
-    ensures is { λ r. ⌜ r ≡ laneOf side x y ⌝ }
-    ensures small { λ r. ⌜ r < lanes ⌝ }
-{
-    x % 8 * Lane::QUAD + y / side % Lane::QUAD
-}
-
-pub fn element_at(side: usize, halves: usize, x: usize, y: usize) -> usize
-    requires { ⌜ (0 < side) × (side ≤ 32) × (halves ≤ 2) × (x ≤ 16) × (y ≤ 128) ⌝ }
-    ensures is { λ r. ⌜ r ≡ elementOf side halves x y ⌝ }
-    ensures small { λ r. ⌜ r < 1024 ⌝ }
-{
-    (y / side / Lane::QUAD * halves + x / 8) * side + y % side
-}
-
 fn find_in(f: Layout, x: u32, y: u32) -> Held
     requires { ⌜ Laid f ⌝ }
     ensures { λ r. ⌜ toldHolder r ≡ findBy f (x, y) ⌝ }
@@ -334,8 +281,8 @@ fn find_in(f: Layout, x: u32, y: u32) -> Held
     if f.spans * 4 * f.side <= minor {
         return Held::Refused(Refusal::Outside);
     }
-    let l = lane_at(f.side, major, minor) as u32;
-    let i = element_at(f.side, f.halves, major, minor) as u32;
+    let l = rule::lane_at(f.side, major, minor) as u32;
+    let i = rule::element_at(f.side, f.halves, major, minor) as u32;
     Held::By(Lane(l), Element(i))
 }
 

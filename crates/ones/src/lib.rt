@@ -71,8 +71,8 @@ pub fn cells(
     ensures { λ _. ⌜ now (d .exit) ≡ tab (lanes * each) (blocks each (onesWord mode (128 * «each_b») «each_a» halves «each_b» each (now (a .entry)) (now (b .entry)) (now (c .entry)))) ⌝ }
 {
     for j in 0..32 * each {
-        let row = kinds::across(2, halves, j / each, j % each);
-        let column = kinds::along(2, halves, j / each, j % each);
+        let row = kinds::rule::across(2, halves, j / each, j % each);
+        let column = kinds::rule::along(2, halves, j / each, j % each);
         let n = ones_at(mode, each_a, halves, each_b, a, b, row, column, 4 * each_b);
         d[j] = cell::cell(0, c[j], n, 0);
     }

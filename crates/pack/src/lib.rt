@@ -31,8 +31,8 @@ fn index_of(
     ensures is { λ r. ⌜ r ≡ index columns (turn turned (major side halves lane i, minor side halves lane i)) ⌝ }
     ensures small { λ r. ⌜ r < 1048576 ⌝ }
 {
-    let x = kinds::across(side, halves, lane, i);
-    let y = kinds::along(side, halves, lane, i);
+    let x = kinds::rule::across(side, halves, lane, i);
+    let y = kinds::rule::along(side, halves, lane, i);
     if turned {
         return y * columns + x;
     }
@@ -61,7 +61,7 @@ fn step_of(turned: bool, columns: usize) -> usize
     if turned { columns } else { 1 }
 }
 
-// Word k of a lane: half of a 64-bit element, or the elements that it holds.
+// Word k of a lane: half of a 64-bit element, a whole one of 32 bits, or the elements that it holds.
 fn lane_word(
     matrix: &[u64],
     bits: usize,
@@ -81,6 +81,10 @@ fn lane_word(
     if bits == 64 {
         let at = index_of(side, halves, turned, columns, lane, k / 2);
         return warp::field_of(matrix[at], 32, k % 2) as u32;
+    }
+    if bits == 32 {
+        let at = index_of(side, halves, turned, columns, lane, k);
+        return matrix[at] as u32;
     }
     let per = 32 / bits;
     let base = index_of(side, halves, turned, columns, lane, k * per);

@@ -146,8 +146,8 @@ pub fn cells(
     ensures { λ _. ⌜ now (d .exit) ≡ tab (lanes * each) (blocks each (digitsWord mode n ha hb each halves (now (x .entry)) (now (y .entry)) (now (c .entry)))) ⌝ }
 {
     for j in 0..32 * each {
-        let row = kinds::across(2, halves, j / each, j % each);
-        let column = kinds::along(2, halves, j / each, j % each);
+        let row = kinds::rule::across(2, halves, j / each, j % each);
+        let column = kinds::rule::along(2, halves, j / each, j % each);
         let s = dot(x, y, row * n, column * n, n, ha, hb);
         d[j] = cell::cell(mode, c[j], s.plus, s.minus);
     }

@@ -55,8 +55,8 @@ pub fn entry_at(
     requires { ⌜ Sane bits each side halves spans × (length (now words) ≡ lanes * each) × (x < halves * 8) × (y < spans * 4 * side) ⌝ }
     ensures { λ r. ⌜ r ≡ elementAt bits each (now (words .entry)) (laneOf side x y) (elementOf side halves x y) ⌝ }
 {
-    let lane = kinds::lane_at(side, x, y);
-    let i = kinds::element_at(side, halves, x, y);
+    let lane = kinds::rule::lane_at(side, x, y);
+    let i = kinds::rule::element_at(side, halves, x, y);
     element(words, bits, each, lane, i)
 }
 

@@ -4,8 +4,8 @@ use mathlib.Core.Path.{refl}
 use native.Mathlib.Omega.{arith}
 use Rattle.kinds.specs.Rule.{elementOf}
 use Rattle.kinds.proofs.Digits.{group-small, element-small}
-use Rattle.kinds.proofs.element_at.Statement.{statement}
-use Rattle.kinds.proofs.element_at.Tie as tie
+use Rattle.kinds.proofs.rule.element_at.Statement.{statement}
+use Rattle.kinds.proofs.rule.element_at.Tie as tie
 
 div-result : tie.Need-div-result
 div-result c = search needs

@@ -5,8 +5,8 @@ use Prim.Native.Nat.{ℕ, _+_, _*_, _/_, _%_, _<_, _≤_}
 use native.Mathlib.Omega.{arith}
 use Rattle.kinds.specs.Rule.{minor}
 use Rattle.kinds.proofs.Digits.{quotient-small, minor-small}
-use Rattle.kinds.proofs.along.Statement.{statement}
-use Rattle.kinds.proofs.along.Tie as tie
+use Rattle.kinds.proofs.rule.along.Statement.{statement}
+use Rattle.kinds.proofs.rule.along.Tie as tie
 
 module _ (c : tie.After-span-of) where
   abbrev S : tie.Start

@@ -3,8 +3,8 @@ use mathlib.Core.Path.{_≡_, sym, ap, _∙_}
 use Prim.Native.Nat.{ℕ, _%_}
 use native.Mathlib.Nat.{mod-one}
 use native.Mathlib.Omega.{arith}
-use Rattle.kinds.proofs.half_of.Statement.{statement}
-use Rattle.kinds.proofs.half_of.Tie as tie
+use Rattle.kinds.proofs.rule.half_of.Statement.{statement}
+use Rattle.kinds.proofs.rule.half_of.Tie as tie
 
 returns : tie.Need-returns
 returns c =

@@ -3,8 +3,8 @@ use mathlib.Core.Path.{_≡_, sym, ap, _∙_}
 use Prim.Native.Nat.{ℕ, _/_}
 use native.Mathlib.Nat.{div-one}
 use native.Mathlib.Omega.{arith}
-use Rattle.kinds.proofs.span_of.Statement.{statement}
-use Rattle.kinds.proofs.span_of.Tie as tie
+use Rattle.kinds.proofs.rule.span_of.Statement.{statement}
+use Rattle.kinds.proofs.rule.span_of.Tie as tie
 
 returns : tie.Need-returns
 returns c =

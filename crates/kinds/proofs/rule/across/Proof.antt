@@ -5,8 +5,8 @@ use Prim.Native.Nat.{ℕ, _+_, _*_, _/_, _<_}
 use native.Mathlib.Nat.{mod-lt}
 use native.Mathlib.Omega.{arith}
 use Rattle.kinds.specs.Rule.{major}
-use Rattle.kinds.proofs.across.Statement.{statement}
-use Rattle.kinds.proofs.across.Tie as tie
+use Rattle.kinds.proofs.rule.across.Statement.{statement}
+use Rattle.kinds.proofs.rule.across.Tie as tie
 
 small : (c : tie.After-half-of) → c .half-of .result < 2
 small c = let s = c .before in omega (arith, mod-lt (s .args .i / s .args .side) (s .pre .1), s .pre, c .half-of .ensures)

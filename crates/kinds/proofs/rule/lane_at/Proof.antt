@@ -3,8 +3,8 @@ use borrow.Author.Needs.{needs}
 use mathlib.Core.Path.{refl}
 use native.Mathlib.Omega.{arith}
 use Rattle.kinds.specs.Rule.{laneOf}
-use Rattle.kinds.proofs.lane_at.Statement.{statement}
-use Rattle.kinds.proofs.lane_at.Tie as tie
+use Rattle.kinds.proofs.rule.lane_at.Statement.{statement}
+use Rattle.kinds.proofs.rule.lane_at.Tie as tie
 
 mul-result : tie.Need-mul-result
 mul-result c = search needs
