@@ -7,13 +7,13 @@ use kinds::Element;
 use kinds::Held;
 use kinds::Kind;
 use kinds::Lane;
+use kinds::Mode;
 use kinds::Placed;
 use kinds::Refusal;
 use kinds::Role;
 use kinds::Row;
+use kinds::Signs;
 use kinds::Verdict;
-use step::Mode;
-use step::Signs;
 
 fn print_text(s: &[u8]) {
     io::write_all(1, s);

@@ -3,7 +3,7 @@ use mathlib.Core.Path.{_≡_}
 use mathlib.Core.Bool.{_||_}
 use Prim.Native.Nat.{ℕ, _-_, _*_, _/_, _<_, _≤_}
 use native.Mathlib.Omega.{arith}
-use borrow.Author.Tests.{eqb-true, ne-eqb, lt-ltb}
+use borrow.Author.Tests.{eqb-true, ne-eqb, lt-ltb, le-ltb}
 use lib.Dec.{T, leb, eqb}
 use Rattle.laws.specs.Choice.{if_then_else_, _<?_, _=?_}
 use lib.ListN.{getD}
@@ -77,6 +77,11 @@ module _ (k r : ℕ) (ok : Legal k r) where
       rw (lt-ltb (layoutAt k r .bits) wordBits h) at
       (eq-test (λ e ρ. if layoutOf e ρ .bits <? wordBits then layoutOf e ρ .side else 0) (λ e ρ. if layoutOf e ρ .bits <? wordBits then wordBits / layoutOf e ρ .bits else 0) tt)
 
+  wide-side : wordBits ≤ layoutAt k r .bits → layoutAt k r .side ≤ 2
+  wide-side h =
+      rw (le-ltb (layoutAt k r .bits) wordBits h) at
+      (le-test (λ e ρ. if layoutOf e ρ .bits <? wordBits then 0 else layoutOf e ρ .side) (λ e ρ. 2) tt)
+
   pub sane : Laid (layoutAt k r)
   sane = record {
     width = record {
@@ -96,6 +101,6 @@ module _ (k r : ℕ) (ok : Legal k r) where
     elements-le = le-test (λ e ρ. elementsOf (layoutOf e ρ)) (λ e ρ. 64) tt;
     minors-le = le-test (λ e ρ. minors (layoutOf e ρ)) (λ e ρ. 128) tt;
     full = eq-test (λ e ρ. layoutOf e ρ .bits * elementsOf (layoutOf e ρ)) (λ e ρ. wordBits * layoutOf e ρ .words) tt;
-    aligned = narrow-test (λ e ρ. layoutOf e ρ .side / (wordBits / layoutOf e ρ .bits) * (wordBits / layoutOf e ρ .bits)) (λ e ρ. layoutOf e ρ .side) tt;
     narrow-side = narrow-side;
+    wide-side = wide-side;
   }

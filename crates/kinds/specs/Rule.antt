@@ -5,9 +5,10 @@ use Prim.Native.Nat.{ℕ, _+_, _*_, _/_, _%_, _<_, _≤_}
 use mathlib.Core.Path.{_≡_}
 use mathlib.Core.Bool.{Bool, true, false}
 use Rattle.laws.specs.Choice.{if_then_else_, _<?_}
-use Rattle.kinds.specs.Kinds.{KnownRole, roleA, roleB, roleC, wordBits, bits, words}
+use Rattle.kinds.specs.Kinds.{KnownRole, roleA, roleB, roleC, wordBits, entryOf, bits, words}
 use Rattle.kinds.specs.declared.Entry.{Entry}
 use Rattle.kinds.specs.declared.Layout.{Layout}
+use Rattle.kinds.specs.declared.Layouts.{Layouts}
 
 -- lane and element to the major and the minor number
 unfoldable pub major : (p h lane i : ℕ) → ℕ
@@ -39,6 +40,10 @@ abbrev pub layoutOf : Entry → KnownRole → Layout
 layoutOf e roleA = spread (bits e roleA) (words e roleA) (sideOf (e .3)) (e .0) (e .2) false
 layoutOf e roleB = spread (bits e roleB) (words e roleB) (sideOf (e .3)) (e .1) (e .2) true
 layoutOf e roleC = spread (bits e roleC) (words e roleC) 2 (e .0) (e .1) false
+
+-- the layouts of a kind's A, B and C
+abbrev pub layoutsOf : (kind : ℕ) → Layouts
+layoutsOf k = record { a = layoutOf (entryOf k) roleA; b = layoutOf (entryOf k) roleB; c = layoutOf (entryOf k) roleC }
 
 -- a lane's elements; the major and the minor numbers there are
 abbrev pub elementsOf : Layout → ℕ
@@ -92,8 +97,8 @@ pub record Sane (bits words side halves spans : ℕ) : Type 0 where
   pub elements-le : spans * halves * side ≤ 64
   pub minors-le : spans * 4 * side ≤ 128
   pub full : bits * (spans * halves * side) ≡ wordBits * words
-  pub aligned : (bits ≡ 64 → ⊥) → side / (wordBits / bits) * (wordBits / bits) ≡ side
   pub narrow-side : bits < wordBits → side ≡ wordBits / bits
+  pub wide-side : wordBits ≤ bits → side ≤ 2
 
 abbrev pub Laid : Layout → Type 0
 Laid f = Sane (f .bits) (f .words) (f .side) (f .halves) (f .spans)

@@ -2,7 +2,7 @@
 ghost use mathlib.Core.Path.{_≡_};
 ghost use Prim.Native.Nat.{_<_, _≤_};
 ghost use Rattle.kinds.specs.Kinds.{kinds, entryOf, roleOf, lanes};
-ghost use Rattle.kinds.specs.Rule.{spread, sideOf, layoutOf, elementsOf, Laid};
+ghost use Rattle.kinds.specs.Rule.{spread, sideOf, layoutOf, layoutsOf, elementsOf, Laid};
 ghost use Rattle.kinds.specs.Refusals.{numberOf, detailOf};
 ghost use Rattle.kinds.specs.Answers.{toldLayout, toldPlace, toldHolder, layoutAnswer, placeAnswer, placeBy, findAnswer, findBy};
 
@@ -20,6 +20,10 @@ pub struct Element(pub u32);
 pub struct Row(pub u32);
 
 pub struct Column(pub u32);
+
+pub struct Signs(pub u32);
+
+pub struct Mode(pub u32);
 
 impl Kind {
     // The kinds are 1 to COUNT.
@@ -111,16 +115,17 @@ pub enum Held {
     Refused(Refusal),
 }
 
-// A line of the kinds table: m, n, k; bits of an A or B element, of a C or D element; words per lane of A, of B, of C or D.
+// A line of the kinds table: m, n, k; bits of an A or B element, of a C or D element; words per lane of A, of B, of C or D. The numbers are
+// narrow, since a look at one line costs a copy of the table.
 pub struct Entry(
-    pub usize,
-    pub usize,
-    pub usize,
-    pub usize,
-    pub usize,
-    pub usize,
-    pub usize,
-    pub usize,
+    pub u16,
+    pub u16,
+    pub u16,
+    pub u16,
+    pub u16,
+    pub u16,
+    pub u16,
+    pub u16,
 );
 
 const KINDS: [Entry; 10] = [
@@ -138,7 +143,7 @@ const KINDS: [Entry; 10] = [
 
 impl Entry {
     // The line of a kind.
-    fn of(kind: Kind) -> Entry
+    pub fn of(kind: Kind) -> Entry
         requires { ⌜ (1 ≤ kind .0) × (kind .0 ≤ kinds) ⌝ }
         ensures { λ r. ⌜ r ≡ entryOf (kind .0) ⌝ }
     {
@@ -165,30 +170,23 @@ pub enum Known {
 
 impl Layout {
     // The layout whose matrix has so many major and minor numbers.
-    fn new(
-        bits: usize,
-        words: usize,
-        side: usize,
-        majors: usize,
-        minors: usize,
-        turned: bool,
-    ) -> Layout
+    fn new(bits: u16, words: u16, side: u16, majors: u16, minors: u16, turned: bool) -> Layout
         requires { ⌜ 0 < side ⌝ }
         ensures { λ r. ⌜ r ≡ spread bits words side majors minors turned ⌝ }
     {
         Layout {
-            bits,
-            words,
-            side,
-            halves: majors / 8,
-            spans: minors / 4 / side,
+            bits: bits as usize,
+            words: words as usize,
+            side: side as usize,
+            halves: (majors / 8) as usize,
+            spans: (minors / 4 / side) as usize,
             turned,
         }
     }
 }
 
 // The elements that stand side by side in A and B: as many as a word holds, or one where an element takes two words.
-fn side_of(bits: usize) -> usize
+fn side_of(bits: u16) -> u16
     requires { ⌜ 0 < bits ⌝ }
     ensures { λ r. ⌜ r ≡ sideOf bits ⌝ }
 {
@@ -218,6 +216,26 @@ impl Layout {
     {
         let e = Entry::of(kind);
         layout_in(e, role)
+    }
+}
+
+// The layouts of a kind's A, B and C.
+pub struct Layouts {
+    pub a: Layout,
+    pub b: Layout,
+    pub c: Layout,
+}
+
+impl Layouts {
+    pub fn of(kind: Kind) -> Layouts
+        requires { ⌜ (1 ≤ kind .0) × (kind .0 ≤ kinds) ⌝ }
+        ensures { λ r. ⌜ r ≡ layoutsOf (kind .0) ⌝ }
+    {
+        let e = Entry::of(kind);
+        let a = layout_in(e, Role(Role::A));
+        let b = layout_in(e, Role(Role::B));
+        let c = layout_in(e, Role(Role::C));
+        Layouts { a, b, c }
     }
 }
 
@@ -251,8 +269,8 @@ fn place_in(f: Layout, lane: Lane, element: Element) -> Placed
     if f.spans * f.halves * f.side <= i {
         return Placed::Refused(Refusal::Outside);
     }
-    let x = rule::across(f.side, f.halves, l, i) as u32;
-    let y = rule::along(f.side, f.halves, l, i) as u32;
+    let x = rule::across(f.side, f.halves, lane, element) as u32;
+    let y = rule::along(f.side, f.halves, lane, element) as u32;
     if f.turned {
         return Placed::At(Row(y), Column(x));
     }

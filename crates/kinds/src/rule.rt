@@ -3,44 +3,49 @@ ghost use mathlib.Core.Path.{_≡_};
 ghost use Prim.Native.Nat.{_/_, _%_, _<_, _≤_};
 ghost use Rattle.kinds.specs.Kinds.{lanes};
 ghost use Rattle.kinds.specs.Rule.{major, minor, laneOf, elementOf};
+use crate::Element;
 use crate::Lane;
 
-// The runs of elements side by side take a layout's halves in turn. There are one or two, so that neither number costs a division.
-fn half_of(halves: usize, run: usize) -> usize
-    requires { ⌜ (0 < halves) × (halves ≤ 2) ⌝ }
-    ensures { λ r. ⌜ r ≡ run % halves ⌝ }
+// What is left of n, and how often it goes, where a layout takes things by ones or twos: neither costs a division.
+pub fn remainder(by: usize, n: usize) -> usize
+    requires { ⌜ (0 < by) × (by ≤ 2) ⌝ }
+    ensures { λ r. ⌜ r ≡ n % by ⌝ }
 {
-    if halves == 1 {
+    if by == 1 {
         return 0;
     }
-    run % 2
+    n % 2
 }
 
-fn span_of(halves: usize, run: usize) -> usize
-    requires { ⌜ (0 < halves) × (halves ≤ 2) ⌝ }
-    ensures { λ r. ⌜ r ≡ run / halves ⌝ }
+pub fn quotient(by: usize, n: usize) -> usize
+    requires { ⌜ (0 < by) × (by ≤ 2) ⌝ }
+    ensures { λ r. ⌜ r ≡ n / by ⌝ }
 {
-    if halves == 1 {
-        return run;
+    if by == 1 {
+        return n;
     }
-    run / 2
+    n / 2
 }
 
 // The major and the minor number of an element.
-pub fn across(side: usize, halves: usize, lane: usize, i: usize) -> usize
-    requires { ⌜ (0 < side) × (0 < halves) × (halves ≤ 2) × (lane < lanes) ⌝ }
-    ensures is { λ r. ⌜ r ≡ major side halves lane i ⌝ }
+pub fn across(side: usize, halves: usize, lane: Lane, element: Element) -> usize
+    requires { ⌜ (0 < side) × (0 < halves) × (halves ≤ 2) × (lane .0 < lanes) ⌝ }
+    ensures is { λ r. ⌜ r ≡ major side halves (lane .0) (element .0) ⌝ }
     ensures small { λ r. ⌜ r < 16 ⌝ }
 {
-    half_of(halves, i / side) * 8 + lane / Lane::QUAD
+    let l = lane.0 as usize;
+    let i = element.0 as usize;
+    remainder(halves, i / side) * 8 + l / Lane::QUAD
 }
 
-pub fn along(side: usize, halves: usize, lane: usize, i: usize) -> usize
-    requires { ⌜ (0 < side) × (side ≤ 32) × (0 < halves) × (halves ≤ 2) × (i ≤ 128) ⌝ }
-    ensures is { λ r. ⌜ r ≡ minor side halves lane i ⌝ }
+pub fn along(side: usize, halves: usize, lane: Lane, element: Element) -> usize
+    requires { ⌜ (0 < side) × (side ≤ 32) × (0 < halves) × (halves ≤ 2) × (element .0 ≤ 128) ⌝ }
+    ensures is { λ r. ⌜ r ≡ minor side halves (lane .0) (element .0) ⌝ }
     ensures small { λ r. ⌜ r < 1024 ⌝ }
 {
-    (span_of(halves, i / side) * Lane::QUAD + lane % Lane::QUAD) * side + i % side
+    let l = lane.0 as usize;
+    let i = element.0 as usize;
+    (quotient(halves, i / side) * Lane::QUAD + l % Lane::QUAD) * side + i % side
 }
 
 // The lane and the element of a major number x and a minor number y.

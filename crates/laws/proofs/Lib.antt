@@ -2,6 +2,7 @@ pub mod Choice
 pub mod Every
 pub mod Fields
 pub mod Lists
+pub mod Toward
 pub mod Bits
 pub mod Differences
 pub mod Integers

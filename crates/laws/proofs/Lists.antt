@@ -1,13 +1,13 @@
 -- Laws of `tab` and `fills`: what stands where, one store more, one block more, and a buffer that was filled whole. Assumes nothing.
 use mathlib.Core.Path.{_≡_, refl, sym, ap, ap₂, _∙_}
-use mathlib.Core.List.{List, [], _∷_, _++_}
+use mathlib.Core.List.{List, _∷_}
 use mathlib.Core.Logic.{_⊎_, inl, inr}
-use Prim.Native.Nat.{ℕ, zero, suc, _+_, _-_, _*_, _≤_, _<_, zero-le, suc-le-suc}
-use native.Mathlib.Nat.{not-suc-le-zero, le-of-suc-le-suc, eq-or-lt-of-le, add-assoc, add-suc, suc-mul, add-zero, zero-add, suc-add, mul-le-mul-right}
+use Prim.Native.Nat.{ℕ, zero, suc, _+_, _*_, _≤_, _<_, zero-le, suc-le-suc}
+use native.Mathlib.Nat.{not-suc-le-zero, le-of-suc-le-suc, eq-or-lt-of-le, add-assoc, add-suc, suc-mul, add-zero, zero-add, mul-le-mul-right}
 use native.Mathlib.Numerals.{add-one}
 use native.Mathlib.Omega.{arith}
 use lib.Arith.{digits-div, digits-mod}
-use lib.ListN.{length, getD, set, take, drop, length-set}
+use lib.ListN.{length, getD, set, length-set}
 use lib.Seq.{ext-getD, getD-set-same, getD-set-other}
 use Rattle.laws.specs.Lists.{tab, fills, blocks}
 
@@ -67,12 +67,6 @@ module _ {A : Type 0} where
       joined base k w w g xs (omega arith)
       ∙ ap (λ (n : ℕ). fills base n (blocks w g) xs) (sym (ap (λ (z : ℕ). z * w) (add-one k) ∙ suc-mul k w))
 
-  -- two rules that agree fill alike
-  pub fills-ext : (base n : ℕ) (f g : ℕ → A) (xs : List A) → ((k : ℕ) → k < n → f k ≡ g k) → fills base n f xs ≡ fills base n g xs
-  unfolding fills
-  fills-ext base zero f g xs h = refl
-  fills-ext base (suc n) f g xs h = ap₂ (λ (ys : List A) (v : A). set ys (base + n) v) (fills-ext base n f g xs (λ k l. h k (omega arith))) (h n (omega arith))
-
   -- what stands in a filled buffer: the rule inside, and outside what stood there
   module _ (base : ℕ) (f : ℕ → A) (xs : List A) (d : A) where
     at : (n k : ℕ) → base + n < length xs → ((k ≡ n) ⊎ (k < n)) → (k < n → getD (fills base n f xs) (base + k) d ≡ f k) → getD (set (fills base n f xs) (base + n) (f n)) (base + k) d ≡ f k
@@ -95,32 +89,3 @@ module _ {A : Type 0} where
   fills-all n f xs d e =
       is-tab n f (fills 0 n f xs) d (length-fills 0 n f xs ∙ e)
       (λ k l. ap (λ (i : ℕ). getD (fills 0 n f xs) i d) (sym (zero-add k)) ∙ fills-in 0 f xs d n k (omega arith) l)
-
-  -- a part that was lent, filled and put back
-  stored : (n : ℕ) (f : ℕ → A) (xs : List A) → n < length xs → set (tab n f ++ drop n xs) n (f n) ≡ tab (suc n) f ++ drop (suc n) xs
-  unfolding tab
-  stored n f [] l = absurd (not-suc-le-zero l)
-  stored zero f (x ∷ xs) l = refl
-  stored (suc n) f (x ∷ xs) l = ap (λ (t : List A). f zero ∷ t) (stored n (λ k. f (suc k)) xs (le-of-suc-le-suc l))
-
-  from-front : (n : ℕ) (f : ℕ → A) (xs : List A) → n ≤ length xs → fills 0 n f xs ≡ tab n f ++ drop n xs
-  unfolding fills tab
-  from-front zero f xs l = refl
-  from-front (suc n) f xs l =
-      ap₂ (λ (ys : List A) (i : ℕ). set ys i (f n)) (from-front n f xs (omega arith)) (zero-add n)
-      ∙ stored n f xs l
-
-  past-first : (a n : ℕ) (f : ℕ → A) (x : A) (xs : List A) → fills (suc a) n f (x ∷ xs) ≡ x ∷ fills a n f xs
-  unfolding fills
-  past-first a zero f x xs = refl
-  past-first a (suc n) f x xs = ap₂ (λ (ys : List A) (i : ℕ). set ys i (f n)) (past-first a n f x xs) (suc-add a n)
-
-  put-back : (a w : ℕ) (f : ℕ → A) (xs : List A) → a + w ≤ length xs → take a xs ++ (tab w f ++ drop w (drop a xs)) ≡ fills a w f xs
-  put-back zero w f xs l = sym (from-front w f xs (omega arith))
-  put-back (suc a) w f [] l = absurd (omega (arith, suc-add a w))
-  put-back (suc a) w f (x ∷ xs) l = ap (λ (t : List A). x ∷ t) (put-back a w f xs (omega (arith, suc-add a w))) ∙ sym (past-first a w f x xs)
-
-  pub fills-part : (a w : ℕ) (f : ℕ → A) (xs : List A) → a + w ≤ length xs → take a xs ++ (tab w f ++ drop (a + w - a) (drop a xs)) ≡ fills a w f xs
-  fills-part a w f xs l =
-      let e : a + w - a ≡ w = omega arith in
-      ap (λ (n : ℕ). take a xs ++ (tab w f ++ drop n (drop a xs))) e ∙ put-back a w f xs l

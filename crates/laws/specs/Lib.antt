@@ -1,5 +1,6 @@
 pub mod Choice
 pub mod Lists
+pub mod Toward
 pub mod Fields
 pub mod Bits
 pub mod Integers

@@ -29,9 +29,6 @@ Within each halves x q = q / 4 * halves + x / 8 < each
 pub within : (some each halves x q : ℕ) → each ≡ some * halves → q < 4 * some → x < halves * 8 → Within each halves x q
 within some each halves x q e hq hx = subst (λ (n : ℕ). q / 4 * halves + x / 8 < n) (sym e) (digits-lt {q = q / 4} {m = some} (omega arith) (omega arith))
 
-pub place-lt : (each halves x q n : ℕ) → Within each halves x q → n ≡ 32 * each → place each halves x q < n
-place-lt each halves x q n h e = subst (λ (m : ℕ). place each halves x q < m) (sym e) (digits-lt {q = x % 8 * 4 + q % 4} {m = 32} (omega arith) h)
-
 abbrev bit : (each halves : ℕ) → List ℕ → (x k : ℕ) → ℕ
 bit each halves ws x k = elementAt 1 each ws (laneOf 32 x k) (elementOf 32 halves x k)
 

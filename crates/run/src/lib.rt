@@ -9,11 +9,11 @@ ghost use Rattle.step.specs.Answers.{Ready};
 ghost use Rattle.run.specs.Runs.{openedRun, zeroRun, usedOf, fedRun};
 ghost use Rattle.run.specs.Answers.{maxBlocks, noRun, openAnswer, feedAnswer, readAnswer};
 use kinds::Kind;
+use kinds::Mode;
 use kinds::Refusal;
-use kinds::Role;
+use kinds::Signs;
 use kinds::Verdict;
-use step::Mode;
-use step::Signs;
+use warp::Lengths;
 
 pub struct Run {
     pub kind: Kind,
@@ -69,7 +69,7 @@ impl Run {
         let Verdict::Accepted = verdict else {
             return verdict;
         };
-        if c != step::needed(kind, Role(Role::C)) {
+        if c != Lengths::of(kind).c {
             return Verdict::Refused(Refusal::WrongLength(0));
         }
         verdict
@@ -128,10 +128,11 @@ impl Run {
         if Run::MAX_BLOCKS <= self.blocks {
             return Verdict::Refused(Refusal::RunFull);
         }
-        if a != step::needed(kind, Role(Role::A)) {
+        let n = Lengths::of(kind);
+        if a != n.a {
             return Verdict::Refused(Refusal::WrongLength(0));
         }
-        if b != step::needed(kind, Role(Role::B)) {
+        if b != n.b {
             return Verdict::Refused(Refusal::WrongLength(1));
         }
         verdict
@@ -151,7 +152,7 @@ impl Run {
         let sums = self.sums;
         let c = sums;
         let mut d = sums;
-        let n = step::needed(kind, Role(Role::C));
+        let n = Lengths::of(kind).c;
         step::work(kind, signs, mode, a, b, &c[..n], &mut d[..n]);
         Run {
             kind,
@@ -186,7 +187,7 @@ impl Run {
         let Verdict::Accepted = verdict else {
             return verdict;
         };
-        if d != step::needed(kind, Role(Role::C)) {
+        if d != Lengths::of(kind).c {
             return Verdict::Refused(Refusal::WrongLength(0));
         }
         verdict

@@ -1,9 +1,9 @@
 // Shows runs: document 01's figures over 4,096 blocks, a clamped run in two orders, a run made up by hand, and each refusal.
 use kinds::Kind;
+use kinds::Mode;
+use kinds::Signs;
 use kinds::Verdict;
 use run::Run;
-use step::Mode;
-use step::Signs;
 
 // Kind 3: every element -128, every element 127, and C 100 below the limit.
 const A_LOW: [u32; 128] = [0x8080_8080; 128];

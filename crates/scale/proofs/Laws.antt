@@ -8,18 +8,18 @@ use native.Mathlib.Nat.{add-comm, mul-one, zero-mul, suc-mul, div-add-mod', div-
 use native.Mathlib.Decide.{ℕ-discrete}
 use native.Mathlib.Omega.{arith}
 use lib.Dec.{ltb, ltb→lt, eqb→eq}
+use lib.IntN.{ℤ}
 use lib.ListN.{length, getD, length-append, length-map, List·getD-append, List·getD-map}
 use lib.Seq.{getD-append-add}
 use lib.Signed.{mag}
 use mir.Syntax.{w32}
 use mir.Val.{SFits}
 use Rattle.laws.specs.Choice.{if_then_else_, _=?_}
-use Rattle.laws.specs.Lists.{tab}
+use Rattle.laws.specs.Lists.{tab, blocks}
 use Rattle.laws.proofs.Every.{all-at, all₂-≡}
 use Rattle.laws.proofs.Lists.{length-tab, getD-tab, is-tab, tab-ext}
 use Rattle.scale.specs.Bytes.{legalThreadId, taken, chosenLanes, byteOf, bytesFrom, chosenBytes, exponent, scaled, outputLength}
-use Rattle.scale.specs.Legal.{Legal}
-use Rattle.scale.proofs.Legal.{bytes-fit, thread-A, thread-B}
+use Rattle.scale.proofs.Legal.{thread-A, thread-B}
 
 -- the lanes of side A, and of side B
 pub lanes-A : (t k : ℕ) → t < 2 → k < 16 → k / 2 * 4 + (2 * t + k % 2) ≡ getD (chosenLanes 0 t) k 0
@@ -87,44 +87,32 @@ module _ (s b : ℕ) (m n : List ℕ) (test : ℕ → Bool) where
       (λ e. tab-ext s (from s b m l) (from s b n l) (λ j k. h 0 (suc-le-suc zero-le) j k e))
       (same-bytes ls (λ i k. h (suc i) (suc-le-suc k)))
 
-by-one : (s side : ℕ) → outputLength s side ≡ outputLength 1 side * s
+-- the chosen lanes' numbers together are the output's
+pub by-one : (s side : ℕ) → outputLength s side ≡ outputLength 1 side * s
 by-one s side = ap (λ (n : ℕ). n * s) (sym (mul-one (if side =? 0 then 16 else 8)))
 
--- chosen byte number x: byte x mod size of lane number x / size
-module _ {s side b t n : ℕ} (ok : Legal s side b t n) where
-  pub size-pos : 0 < s
-  size-pos = bytes-fit s b (ok .byte-id) .0
-
-  module _ (x : ℕ) where
-    pub byte-in : b + x % s < 4
-    byte-in = omega (arith, bytes-fit s b (ok .byte-id), mod-lt x size-pos)
-
-    module _ (h : x < outputLength s side) where
-      below : x < outputLength 1 side * s
-      below = subst (λ (n : ℕ). x < n) (by-one s side) h
-
-      pub lane-in : x / s < outputLength 1 side
-      lane-in = div-lt-iff-lt-mul size-pos .1 below
-
-      pub chosen-at : (m : List ℕ) → getD (chosenBytes s side b t m) x 0 ≡ byteOf (getD m (getD (chosenLanes side t) (x / s) 0) 0) (b + x % s)
-      unfolding chosenBytes
-      chosen-at m = bytes-at s b m (chosenLanes side t) x size-pos (subst (λ (n : ℕ). x < n * s) (sym (lanes-length side t (ok .thread-id))) below)
+-- number j of chosen lane number k
+abbrev pub number : (side b t : ℕ) → List ℕ → (k j : ℕ) → ℤ
+number side b t m k j = exponent (byteOf (getD m (getD (chosenLanes side t) k 0) 0) (b + j))
 
 -- the output, by number
 module _ (s side b t : ℕ) (m : List ℕ) (ok : legalThreadId side t ≡ true) where
+  numbers : outputLength s side ≡ length (chosenLanes side t) * s
+  numbers = by-one s side ∙ ap (λ (n : ℕ). n * s) (sym (lanes-length side t ok))
+
   pub scaled-length : length (scaled s side b t m) ≡ outputLength s side
   unfolding scaled chosenBytes
   scaled-length =
       length-map (bytesFrom s b m (chosenLanes side t)) exponent
       ∙ bytes-length s b m (chosenLanes side t)
-      ∙ ap (λ (n : ℕ). n * s) (lanes-length side t ok)
-      ∙ sym (by-one s side)
+      ∙ sym numbers
 
-  pub scaled-tab : scaled s side b t m ≡ tab (outputLength s side) (λ x. exponent (getD (chosenBytes s side b t m) x 0))
-  unfolding scaled
-  scaled-tab =
-      is-tab (outputLength s side) (λ x. exponent (getD (chosenBytes s side b t m) x 0)) (scaled s side b t m) (exponent 0) scaled-length
-      (λ x h. List·getD-map exponent (chosenBytes s side b t m) x 0)
+  pub scaled-tab : 0 < s → scaled s side b t m ≡ tab (outputLength s side) (blocks s (number side b t m))
+  unfolding scaled chosenBytes
+  scaled-tab s0 =
+      is-tab (outputLength s side) (blocks s (number side b t m)) (scaled s side b t m) (exponent 0) scaled-length
+      (λ x h. List·getD-map exponent (chosenBytes s side b t m) x 0
+      ∙ ap exponent (bytes-at s b m (chosenLanes side t) x s0 (subst (λ (n : ℕ). x < n) numbers h)))
 
 -- the exponent of a byte is an i32
 pub exponent-fits : (b : ℕ) → b < 256 → SFits w32 (exponent b)

@@ -64,9 +64,9 @@ accepted s side b t m n e =
     )
 
 -- the output is small
-pub output-le : {s side b t n : ℕ} → Legal s side b t n → outputLength s side ≤ 64
-output-le {s} {side} {b} {t} {n} ok = few (side =? 0) (omega (arith, bytes-fit s b (ok .byte-id)))
+pub output-le : (s side : ℕ) → s ≤ 4 → outputLength s side ≤ 64
+output-le s side h = few (side =? 0)
   where
-    few : (t : Bool) → s ≤ 4 → (if t then 16 else 8) * s ≤ 64
-    few true h = omega arith
-    few false h = omega arith
+    few : (t : Bool) → (if t then 16 else 8) * s ≤ 64
+    few true = omega arith
+    few false = omega arith

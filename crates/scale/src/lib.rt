@@ -1,11 +1,12 @@
 // Scale bytes: the choice of bytes by the selectors, and their reading as exponents.
 ghost use mathlib.Core.Path.{_≡_};
 ghost use mathlib.Core.Bool.{true};
-ghost use Prim.Native.Nat.{_<_};
+ghost use Prim.Native.Nat.{_+_, _<_, _≤_};
 ghost use lib.ListN.{length, getD};
 ghost use Rattle.kinds.specs.Kinds.{lanes};
 ghost use Rattle.kinds.specs.Refusals.{told, after};
-ghost use Rattle.scale.specs.Bytes.{legalSize, legalSide, legalByteId, legalThreadId, chosenLanes, byteOf, chosenBytes, exponent, scaled, outputLength};
+ghost use Rattle.laws.specs.Lists.{fills};
+ghost use Rattle.scale.specs.Bytes.{legalSize, legalSide, legalByteId, legalThreadId, chosenLanes, byteOf, exponent, scaled, outputLength};
 ghost use Rattle.scale.specs.Answers.{scaleAnswer};
 ghost use Rattle.scale.specs.Legal.{Legal};
 use kinds::Lane;
@@ -156,26 +157,6 @@ fn byte_of(word: u32, b: u32) -> u8
     ((word >> (8 * b)) % 256) as u8
 }
 
-// The chosen byte number x: lanes ascending, and in a lane the low byte first.
-fn chosen_byte(
-    size: Size,
-    side: Side,
-    byte_id: ByteId,
-    thread_id: ThreadId,
-    metadata: &[u32],
-    x: u32,
-) -> u8
-    requires { ⌜ Legal (size .0) (side .0) («byte_id» .0) («thread_id» .0) (length (now metadata)) ⌝ }
-    requires { ⌜ x < outputLength (size .0) (side .0) ⌝ }
-    ensures { λ r. ⌜ r ≡ getD (chosenBytes (size .0) (side .0) («byte_id» .0) («thread_id» .0) (now (metadata .entry))) x 0 ⌝ }
-{
-    let n = size.0;
-    let b = byte_id.0;
-    let lane = lane_at(side, thread_id, x / n);
-    let at = lane.0 as usize;
-    byte_of(metadata[at], b + x % n)
-}
-
 // A byte as a signed exponent.
 fn exponent_of(b: u8) -> i32
     ensures { λ r. ⌜ r ≡ exponent b ⌝ }
@@ -183,7 +164,18 @@ fn exponent_of(b: u8) -> i32
     b as i32 - 127
 }
 
-// The whole output, number by number.
+// The bytes of one chosen lane, the low byte first.
+fn put_lane(word: u32, size: Size, byte_id: ByteId, out: &mut [i32], at: usize)
+    requires { ⌜ («byte_id» .0 + size .0 ≤ 4) × (at ≤ 64) × (at + size .0 ≤ length (now out)) ⌝ }
+    ensures { λ _. ⌜ now (out .exit) ≡ fills at (size .0) (λ j. exponent (byteOf word («byte_id» .0 + j))) (now (out .entry)) ⌝ }
+{
+    for j in 0..size.0 {
+        let k = at + j as usize;
+        out[k] = exponent_of(byte_of(word, byte_id.0 + j));
+    }
+}
+
+// The whole output, lane by lane.
 fn fill(
     size: Size,
     side: Side,
@@ -196,11 +188,10 @@ fn fill(
     requires { ⌜ length (now out) ≡ outputLength (size .0) (side .0) ⌝ }
     ensures { λ _. ⌜ now (out .exit) ≡ scaled (size .0) (side .0) («byte_id» .0) («thread_id» .0) (now (metadata .entry)) ⌝ }
 {
-    let mut x = 0;
-    while x < out.len() {
-        let b = chosen_byte(size, side, byte_id, thread_id, metadata, x as u32);
-        out[x] = exponent_of(b);
-        x += 1;
+    for k in 0..output_length(Size(1), side) {
+        let lane = lane_at(side, thread_id, k as u32).0 as usize;
+        let at = k * size.0 as usize;
+        put_lane(metadata[lane], size, byte_id, out, at);
     }
 }
 

@@ -90,14 +90,11 @@ module _ (k : ℕ) (low : 1 ≤ k) (high : k ≤ 5) where
       let j : suc (k - 2) ≡ k - 1 = omega arith in
       subst (λ (j : ℕ). line j .2 ≤ 64) j (leb→le (line (suc (k - 2)) .2) 64 (all-at 4 (λ j. leb (line (suc j) .2) 64) tt (k - 2) (omega arith)))
 
-  -- the integer kinds have two halves of eight rows, and four words of C a lane
+  -- the integer kinds have two halves of eight rows
   pub two-halves : 2 ≤ k → e .0 / 8 ≡ 2
   two-halves two =
       let j : suc (k - 2) ≡ k - 1 = omega arith in
       subst (λ (j : ℕ). line j .0 / 8 ≡ 2) j (eqb→eq (line (suc (k - 2)) .0 / 8) 2 (all-at 4 (λ j. eqb (line (suc j) .0 / 8) 2) tt (k - 2) (omega arith)))
-
-  pub four-words : 2 ≤ k → e .7 ≡ 4
-  four-words two = omega (arith, pairs, two-halves two)
 
   pub room-A : e .0 / 8 * 8 * depth k ≤ 1024
   room-A = le-test (λ e. e .0 / 8 * 8 * e .2) (λ e. 1024) tt

@@ -4,20 +4,17 @@ ghost use Prim.Native.Nat.{_-_, _^_, _<_, _≤_};
 ghost use lib.ListN.{length};
 ghost use Rattle.kinds.specs.Kinds.{kinds};
 ghost use Rattle.kinds.specs.Refusals.{told, after, given};
-ghost use Rattle.warp.specs.Buffers.{wordsNeeded};
 ghost use Rattle.step.specs.Step.{unsignedA, unsignedB, stepped};
 ghost use Rattle.step.specs.Answers.{selected, fourBuffers, stepAnswer, plainAnswer, Ready, Sized};
 ghost use Rattle.sums.specs.Sums.{offsetOf};
 use kinds::Kind;
-use kinds::Lane;
-use kinds::Layout;
+use kinds::Layouts;
+use kinds::Mode;
 use kinds::Refusal;
-use kinds::Role;
+use kinds::Signs;
 use kinds::Verdict;
-
-pub struct Signs(pub u32);
-
-pub struct Mode(pub u32);
+use sums::Offsets;
+use warp::Lengths;
 
 // Refusals 1, 3 and 4, with which a step and the opening of a run begin.
 pub fn judge(kind: Kind, signs: Signs, mode: Mode) -> Verdict
@@ -49,22 +46,24 @@ pub fn judge(kind: Kind, signs: Signs, mode: Mode) -> Verdict
     Verdict::Accepted
 }
 
-fn unsigned_a(signs: u32) -> bool
-    ensures { λ r. ⌜ r ≡ unsignedA signs ⌝ }
+fn unsigned_a(signs: Signs) -> bool
+    ensures { λ r. ⌜ r ≡ unsignedA (signs .0) ⌝ }
 {
-    if signs == 1 {
+    let s = signs.0;
+    if s == 1 {
         return true;
     }
-    signs == 3
+    s == 3
 }
 
-fn unsigned_b(signs: u32) -> bool
-    ensures { λ r. ⌜ r ≡ unsignedB signs ⌝ }
+fn unsigned_b(signs: Signs) -> bool
+    ensures { λ r. ⌜ r ≡ unsignedB (signs .0) ⌝ }
 {
-    if signs == 2 {
+    let s = signs.0;
+    if s == 2 {
         return true;
     }
-    signs == 3
+    s == 3
 }
 
 // How far a side's digits stand too high: by the weight of the sign bit, where they are signed.
@@ -78,32 +77,35 @@ fn offset(unsigned: bool, bits: usize) -> u64
     1 << (bits - 1)
 }
 
-// The integer kinds: A by rows and B by columns are unpacked once, into digits. A lane of each has four words of C, in two halves.
+// The integer kinds: A by rows and B by columns are unpacked once, into digits.
 fn multiply(kind: Kind, signs: Signs, mode: Mode, a: &[u32], b: &[u32], c: &[u32], d: &mut [u32])
     requires { ⌜ Ready (kind .0) (signs .0) (mode .0) × (2 ≤ kind .0) ⌝ }
     requires { ⌜ Sized (kind .0) (length (now a)) (length (now b)) (length (now c)) (length (now d)) ⌝ }
     ensures { λ _. ⌜ now (d .exit) ≡ stepped (kind .0) (signs .0) (mode .0) (now (a .entry)) (now (b .entry)) (now (c .entry)) ⌝ }
 {
-    let f = Layout::of(kind, Role(Role::A));
-    let g = Layout::of(kind, Role(Role::B));
-    let bits = f.bits;
-    let n = f.spans * 4 * f.side;
-    let ha = offset(unsigned_a(signs.0), bits);
-    let hb = offset(unsigned_b(signs.0), bits);
+    let l = Layouts::of(kind);
+    let f = l.a;
+    let g = l.b;
+    let ha = offset(unsigned_a(signs), f.bits);
+    let hb = offset(unsigned_b(signs), f.bits);
+    let h = Offsets {
+        a: ha as u32,
+        b: hb as u32,
+    };
     let mut x: [u8; 1024] = [0; 1024];
     let mut y: [u8; 1024] = [0; 1024];
-    sums::digits_by_width(a, &mut x, bits, f.words, f.side, f.halves, f.spans, ha, n);
-    sums::digits_by_width(b, &mut y, bits, g.words, g.side, g.halves, g.spans, hb, n);
-    sums::cells(mode.0, &x, &y, n, ha as u32, hb as u32, 4, 2, c, d);
+    sums::digits(a, &mut x, f, ha);
+    sums::digits(b, &mut y, g, hb);
+    sums::cells(l, mode, h, &x, &y, c, d);
 }
 
-// The one-bit kind. Its numbers are written out: a lane has one word of A and one of B and two of C, and A has one half.
+// The one-bit kind.
 fn count(kind: Kind, mode: Mode, a: &[u32], b: &[u32], c: &[u32], d: &mut [u32])
     requires { ⌜ (kind .0 ≡ 1) × (mode .0 ≤ 1) ⌝ }
     requires { ⌜ Sized (kind .0) (length (now a)) (length (now b)) (length (now c)) (length (now d)) ⌝ }
     ensures { λ _. ⌜ now (d .exit) ≡ stepped (kind .0) 0 (mode .0) (now (a .entry)) (now (b .entry)) (now (c .entry)) ⌝ }
 {
-    ones::cells(mode.0, 1, 1, 1, 2, a, b, c, d);
+    ones::cells(mode, a, b, c, d);
 }
 
 // The words of D, for numbers and lengths that were judged: the worker of a step and of a run's feed.
@@ -120,31 +122,22 @@ pub fn work(kind: Kind, signs: Signs, mode: Mode, a: &[u32], b: &[u32], c: &[u32
     multiply(kind, signs, mode, a, b, c, d);
 }
 
-// The words that a warp buffer of a legal kind and role needs.
-pub fn needed(kind: Kind, role: Role) -> usize
-    requires { ⌜ (1 ≤ kind .0) × (kind .0 ≤ kinds) × (role .0 ≤ 2) ⌝ }
-    ensures { λ r. ⌜ r ≡ wordsNeeded (kind .0) (role .0) ⌝ }
-{
-    let f = Layout::of(kind, role);
-    Lane::COUNT * f.words
-}
-
 // Refusal 5, by the lengths of A, B, C and D.
 fn lengths(kind: Kind, a: usize, b: usize, c: usize, d: usize) -> Verdict
     requires { ⌜ (1 ≤ kind .0) × (kind .0 ≤ kinds) ⌝ }
     ensures { λ r. ⌜ told r ≡ fourBuffers (kind .0) a b c d ⌝ }
 {
-    if a != needed(kind, Role(Role::A)) {
+    let n = Lengths::of(kind);
+    if a != n.a {
         return Verdict::Refused(Refusal::WrongLength(0));
     }
-    if b != needed(kind, Role(Role::B)) {
+    if b != n.b {
         return Verdict::Refused(Refusal::WrongLength(1));
     }
-    let n = needed(kind, Role(Role::C));
-    if c != n {
+    if c != n.c {
         return Verdict::Refused(Refusal::WrongLength(2));
     }
-    if d != n {
+    if d != n.c {
         return Verdict::Refused(Refusal::WrongLength(3));
     }
     Verdict::Accepted

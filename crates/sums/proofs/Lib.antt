@@ -1,1 +1,4 @@
-pub mod Offsets
+pub mod Masked
+pub mod OffsetDots
+pub mod Signs
+pub mod Worded

@@ -1,18 +1,39 @@
 // The integer kinds: an exact sum costs one multiply a product. With digits that stand too high by ha and hb, the sum of the products is
 // (the sum of the digits' products + n ha hb) - (ha times the sum of B's digits + hb times the sum of A's): two naturals.
 ghost use mathlib.Core.Path.{_≡_};
-ghost use Prim.Native.Nat.{ℕ, _+_, _*_, _<_, _≤_};
+ghost use mathlib.Core.Logic.{_⊎_};
+ghost use Prim.Native.Nat.{ℕ, _+_, _*_, _-_, _^_, _<_, _≤_};
 ghost use lib.ListN.{length, getD};
-ghost use lib.IntN.{subℕ};
-ghost use Rattle.laws.specs.Lists.{tab, fills, blocks};
+ghost use Rattle.laws.specs.Fields.{field, joined};
+ghost use Rattle.laws.specs.Toward.{stores, Brings, Below, At};
 ghost use Rattle.kinds.specs.Kinds.{lanes};
-ghost use Rattle.kinds.specs.Rule.{Sane};
-ghost use Rattle.sums.specs.Sums.{digitAt, offsetDot, digitsWord};
+ghost use Rattle.warp.specs.Stretches.{stretchesOf, OfLane, OfQuad};
+ghost use Rattle.sums.specs.Sums.{Dots, straight, masked, Digits, Digitised, Summable, digitsWords};
+use kinds::Element;
+use kinds::Lane;
+use kinds::Layout;
+use kinds::Layouts;
+use kinds::Mode;
+use warp::Quad;
+use warp::Stretch;
+
+// How far the digits of A and of B stand too high.
+pub struct Offsets {
+    pub a: u32,
+    pub b: u32,
+}
 
 // A number as the difference of two.
 pub struct Split {
     pub plus: u32,
     pub minus: u32,
+}
+
+// Of two rows of digits: the sum of their products, and the sum of each.
+pub struct Dot {
+    pub products: u32,
+    pub a: u32,
+    pub b: u32,
 }
 
 // One product of two digits.
@@ -30,125 +51,165 @@ fn wide(x: u8) -> u32
     x as u32
 }
 
-// The sum of the products of n digits from i on and n from j on, as a difference.
-fn dot(a: &[u8; 1024], b: &[u8; 1024], i: usize, j: usize, n: usize, ha: u32, hb: u32) -> Split
-    requires { ⌜ (n ≤ 64) × (i + n ≤ 1024) × (j + n ≤ 1024) × (ha ≤ 128) × (hb ≤ 128) ⌝ }
-    ensures means { λ r. ⌜ offsetDot ha hb n (λ k. getD (now (a .entry)) (i + k) 0) (λ k. getD (now (b .entry)) (j + k) 0) ≡ subℕ (r .plus) (r .minus) ⌝ }
+// The sums of n digits from i on and n from j on.
+fn dot_of(x: &[u8; 1024], y: &[u8; 1024], i: usize, j: usize, n: usize) -> Dot
+    requires { ⌜ (n ≤ 64) × (i + n ≤ 1024) × (j + n ≤ 1024) ⌝ }
+    ensures { λ r. ⌜ Dots n (λ k. getD (now (x .entry)) (i + k) 0) (λ k. getD (now (y .entry)) (j + k) 0) r ⌝ }
+{
+    let mut products: u32 = 0;
+    let mut a: u32 = 0;
+    let mut b: u32 = 0;
+    for k in 0..n {
+        let u = wide(x[i + k]);
+        let v = wide(y[j + k]);
+        products += product(u, v);
+        a += u;
+        b += v;
+    }
+    Dot { products, a, b }
+}
+
+// The exact sum of n products, from the sums of their digits.
+fn exact(s: Dot, n: usize, h: Offsets) -> Split
+    requires { ⌜ (n ≤ 64) × (h .a ≤ 128) × (h .b ≤ 128) × (s .products ≤ 65025 * 64) × (s .a ≤ 255 * 64) × (s .b ≤ 255 * 64) ⌝ }
+    ensures is { λ r. ⌜ (r .plus ≡ s .products + n * (h .a * h .b)) × (r .minus ≡ h .a * s .b + h .b * s .a) ⌝ }
     ensures small { λ r. ⌜ (r .plus ≤ 8388608) × (r .minus ≤ 8388608) ⌝ }
 {
-    let mut s: u32 = 0;
-    let mut x: u32 = 0;
-    let mut y: u32 = 0;
-    for k in 0..n {
-        let u = wide(a[i + k]);
-        let v = wide(b[j + k]);
-        s += product(u, v);
-        x += u;
-        y += v;
-    }
-    let m = n as u32;
     Split {
-        plus: s + m * (ha * hb),
-        minus: ha * y + hb * x,
+        plus: s.products + n as u32 * (h.a * h.b),
+        minus: h.a * s.b + h.b * s.a,
     }
 }
 
-fn digits_row(
-    words: &[u32],
-    out: &mut [u8; 1024],
-    bits: usize,
-    each: usize,
-    side: usize,
-    halves: usize,
-    spans: usize,
-    offset: u64,
-    x: usize,
-    n: usize,
-)
-    requires { ⌜ Sane bits each side halves spans × (bits ≤ 8) × (length (now words) ≡ lanes * each) × (offset ≤ 128) × (length (now out) ≡ 1024) ⌝ }
-    requires { ⌜ (x < halves * 8) × (n ≡ spans * 4 * side) × (x * n + n ≤ 1024) ⌝ }
-    ensures { λ _. ⌜ now (out .exit) ≡ fills (x * n) n (digitAt bits each side halves offset (now (words .entry)) x) (now (out .entry)) ⌝ }
+fn word(x: u32) -> u64
+    ensures { λ r. ⌜ r ≡ x ⌝ }
 {
-    let size: u64 = 1 << bits;
-    for y in 0..n {
-        let e = unpack::entry_at(words, bits, each, side, halves, spans, x, y);
-        out[x * n + y] = ((e + offset) % size) as u8;
+    x as u64
+}
+
+// The word whose every field is the offset.
+fn mask_of(bits: usize, side: usize, offset: u64) -> u32
+    requires { ⌜ (bits * side ≤ 32) × (side ≤ 32) × (offset < 2 ^ bits) ⌝ }
+    ensures { λ r. ⌜ r ≡ joined bits side (λ j. offset) ⌝ }
+{
+    let mut sum: u64 = 0;
+    let mut j = 0;
+    while j < side {
+        sum = (offset << (bits * j)) + sum;
+        j += 1;
+    }
+    sum as u32
+}
+
+// The fields of a word, from base on.
+fn digits_of(out: &mut [u8; 1024], word: u64, bits: usize, side: usize, base: usize)
+    requires { ⌜ (bits * side ≤ 32) × (bits ≤ 8) × (side ≤ 32) × (base + side ≤ 1024) × (length (now out) ≡ 1024) ⌝ }
+    ensures { λ _. ⌜ now (out .exit) ≡ stores base 1 side (λ j. field bits j word) (now (out .entry)) ⌝ }
+{
+    for j in 0..side {
+        out[base + j] = warp::field_of(word, bits, j) as u8;
     }
 }
 
-// The digits of a side by its major and minor numbers: of A by rows, of B by columns.
-fn digits(
+// One stretch of a lane, with the sign bits of its word turned over.
+fn digits_lane(
     words: &[u32],
     out: &mut [u8; 1024],
-    bits: usize,
-    each: usize,
-    side: usize,
-    halves: usize,
-    spans: usize,
-    offset: u64,
-    n: usize,
+    f: Layout,
+    mask: u32,
+    stretch: Stretch,
+    lane: Lane,
 )
-    requires { ⌜ Sane bits each side halves spans × (bits ≤ 8) × (length (now words) ≡ lanes * each) × (offset ≤ 128) × (length (now out) ≡ 1024) ⌝ }
-    requires { ⌜ (n ≡ spans * 4 * side) × (halves * 8 * n ≤ 1024) ⌝ }
-    ensures { λ _. ⌜ now (out .exit) ≡ fills 0 (halves * 8 * n) (blocks n (digitAt bits each side halves offset (now (words .entry)))) (now (out .entry)) ⌝ }
+    requires { ⌜ Digitised f (now words) (now out) × (stretch .0 < stretchesOf f) × (lane .0 < lanes) ⌝ }
+    ensures { λ _. ⌜ Brings (masked f mask (now (words .entry))) (OfLane f (f .side) (stretch .0) (lane .0)) (now (out .entry)) (now (out .exit)) ⌝ }
 {
-    for x in 0..halves * 8 {
-        digits_row(words, out, bits, each, side, halves, spans, offset, x, n);
+    let base = warp::base_of(f, stretch, lane);
+    let k = lane.0 as usize * f.words + stretch.0;
+    let turned = word(words[k] ^ mask);
+    digits_of(out, turned, f.bits, f.side, base);
+}
+
+// The same stretch of a quad's lanes, and of every quad's.
+fn digits_quad(
+    words: &[u32],
+    out: &mut [u8; 1024],
+    f: Layout,
+    mask: u32,
+    stretch: Stretch,
+    quad: Quad,
+)
+    requires { ⌜ Digitised f (now words) (now out) × (stretch .0 < stretchesOf f) × (quad .0 < 8) ⌝ }
+    ensures { λ _. ⌜ Brings (masked f mask (now (words .entry))) (OfQuad f (f .side) (stretch .0) (quad .0)) (now (out .entry)) (now (out .exit)) ⌝ }
+{
+    for t in 0..Lane::QUAD {
+        digits_lane(words, out, f, mask, stretch, quad.lane(t));
     }
 }
 
-// The same, with the numbers of the two widths written out, so that the compiler makes a loop for each.
-pub fn digits_by_width(
-    words: &[u32],
-    out: &mut [u8; 1024],
-    bits: usize,
-    each: usize,
-    side: usize,
-    halves: usize,
-    spans: usize,
-    offset: u64,
-    n: usize,
-)
-    requires { ⌜ Sane bits each side halves spans × (bits ≤ 8) × (length (now words) ≡ lanes * each) × (offset ≤ 128) × (length (now out) ≡ 1024) ⌝ }
-    requires { ⌜ (n ≡ spans * 4 * side) × (halves * 8 * n ≤ 1024) ⌝ }
-    ensures { λ _. ⌜ now (out .exit) ≡ fills 0 (halves * 8 * n) (blocks n (digitAt bits each side halves offset (now (words .entry)))) (now (out .entry)) ⌝ }
+fn digits_quads(words: &[u32], out: &mut [u8; 1024], f: Layout, mask: u32, stretch: Stretch)
+    requires { ⌜ Digitised f (now words) (now out) × (stretch .0 < stretchesOf f) ⌝ }
+    ensures { λ _. ⌜ Brings (masked f mask (now (words .entry))) (Below 8 (OfQuad f (f .side) (stretch .0))) (now (out .entry)) (now (out .exit)) ⌝ }
 {
-    if bits == 8 {
-        if side == 4 {
-            digits(words, out, 8, each, 4, halves, spans, offset, n);
-            return;
-        }
+    for quad in 0..Quad::COUNT {
+        digits_quad(words, out, f, mask, stretch, Quad(quad));
     }
-    if bits == 4 {
-        if side == 8 {
-            digits(words, out, 4, each, 8, halves, spans, offset, n);
-            return;
-        }
+}
+
+// The digits of a side by its major and minor numbers, of A by rows and of B by columns: the matrix of the layout that is not turned. An
+// offset is nothing or a sign bit's weight, and to add that is to turn the bit over.
+pub fn digits(words: &[u32], out: &mut [u8; 1024], side: Layout, offset: u64)
+    requires { ⌜ Digitised (straight side) (now words) (now out) × ((offset ≡ 0) ⊎ (offset ≡ 2 ^ (side .bits - 1))) ⌝ }
+    ensures { λ _. ⌜ Digits side offset (now (words .entry)) (now (out .exit)) ⌝ }
+{
+    let mut f = side;
+    f.turned = false;
+    let mask = mask_of(f.bits, f.side, offset);
+    for stretch in 0..warp::stretches_in(f) {
+        digits_quads(words, out, f, mask, Stretch(stretch));
     }
-    digits(words, out, bits, each, side, halves, spans, offset, n);
+}
+
+// The words of D that a lane holds.
+fn lane_cells(
+    l: Layouts,
+    mode: Mode,
+    h: Offsets,
+    x: &[u8; 1024],
+    y: &[u8; 1024],
+    c: &[u32],
+    d: &mut [u32],
+    lane: Lane,
+)
+    requires { ⌜ Summable l (mode .0) h (now c) (now d) × (lane .0 < lanes) ⌝ }
+    ensures { λ _. ⌜ Brings (digitsWords l (mode .0) h (now (x .entry)) (now (y .entry)) (now (c .entry))) (Below (l .c .words) (λ i. At (lane .0 * l .c .words + i))) (now (d .entry)) (now (d .exit)) ⌝ }
+{
+    let f = l.a;
+    let g = l.c;
+    let n = f.spans * 4 * f.side;
+    for i in 0..g.words {
+        let element = Element(i as u32);
+        let row = kinds::rule::across(2, g.halves, lane, element);
+        let column = kinds::rule::along(2, g.halves, lane, element);
+        let s = exact(dot_of(x, y, row * n, column * n, n), n, h);
+        let k = lane.0 as usize * g.words + i;
+        d[k] = cell::cell(mode, c[k], s.plus, s.minus);
+    }
 }
 
 // Every word of D, lane by lane.
 pub fn cells(
-    mode: u32,
+    l: Layouts,
+    mode: Mode,
+    h: Offsets,
     x: &[u8; 1024],
     y: &[u8; 1024],
-    n: usize,
-    ha: u32,
-    hb: u32,
-    each: usize,
-    halves: usize,
     c: &[u32],
     d: &mut [u32],
 )
-    requires { ⌜ (mode ≤ 1) × (n ≤ 64) × (ha ≤ 128) × (hb ≤ 128) × (0 < halves) × (halves ≤ 2) × (each ≡ 2 * halves) ⌝ }
-    requires { ⌜ (length (now c) ≡ lanes * each) × (length (now d) ≡ lanes * each) ⌝ }
-    ensures { λ _. ⌜ now (d .exit) ≡ tab (lanes * each) (blocks each (digitsWord mode n ha hb each halves (now (x .entry)) (now (y .entry)) (now (c .entry)))) ⌝ }
+    requires { ⌜ Summable l (mode .0) h (now c) (now d) ⌝ }
+    ensures { λ _. ⌜ now (d .exit) ≡ digitsWords l (mode .0) h (now (x .entry)) (now (y .entry)) (now (c .entry)) ⌝ }
 {
-    for j in 0..32 * each {
-        let row = kinds::rule::across(2, halves, j / each, j % each);
-        let column = kinds::rule::along(2, halves, j / each, j % each);
-        let s = dot(x, y, row * n, column * n, n, ha, hb);
-        d[j] = cell::cell(mode, c[j], s.plus, s.minus);
+    for lane in 0..32 {
+        lane_cells(l, mode, h, x, y, c, d, Lane(lane));
     }
 }

@@ -4,14 +4,16 @@ ghost use lib.ListN.{length};
 ghost use Rattle.kinds.specs.Refusals.{told, after};
 ghost use Rattle.warp.specs.Buffers.{Fitting};
 ghost use Rattle.template.specs.Templates.{templateWords, templateRecord, readAnswer, writeAnswer};
+use kinds::Kind;
+use kinds::Layout;
 use kinds::Refusal;
+use kinds::Role;
 use kinds::Verdict;
 
 // The bytes of a record.
 pub const BYTES: usize = 256;
 
-// The words of B of kind 3, whose layout the calls below write out: 8 bits, 2 words a lane, 4 side by side, 1 half, 2 spans, turned; 32 rows of
-// 8 columns.
+// The words of B of kind 3, whose layout the calls below take.
 pub const WORDS: usize = 64;
 
 // A record to the lane words of its matrix.
@@ -25,9 +27,10 @@ pub fn read(record: &[u8], words: &mut [u32]) -> Verdict
     if words.len() != WORDS {
         return Verdict::Refused(Refusal::WrongLength(1));
     }
+    let f = Layout::of(Kind(3), Role(Role::B));
     let mut matrix: [u64; 256] = [0; 256];
     widen(record, &mut matrix);
-    pack::fill_words(&matrix, words, 8, 2, 4, 1, 2, true, 8);
+    pack::fill_words(&matrix, words, f);
     Verdict::Accepted
 }
 
@@ -42,8 +45,9 @@ pub fn write(words: &[u32], record: &mut [u8]) -> Verdict
     if record.len() != BYTES {
         return Verdict::Refused(Refusal::WrongLength(1));
     }
+    let f = Layout::of(Kind(3), Role(Role::B));
     let mut matrix: [u64; 256] = [0; 256];
-    unpack::fill(words, &mut matrix, 8, 2, 4, 1, 2, true, 32, 8);
+    unpack::fill(words, &mut matrix, f);
     narrow(&matrix, record);
     Verdict::Accepted
 }

@@ -1,14 +1,15 @@
 // Unpacking: lane words to the row-major matrix of bit patterns.
 ghost use mathlib.Core.Path.{_≡_};
-ghost use mathlib.Core.Bool.{true, false};
-ghost use Prim.Native.Nat.{_+_, _*_, _^_, _<_, _≤_};
+ghost use Prim.Native.Nat.{ℕ, _+_, _*_, _^_, _<_, _≤_};
 ghost use lib.ListN.{length, getD};
-ghost use Rattle.laws.specs.Choice.{if_then_else_};
-ghost use Rattle.laws.specs.Lists.{fills};
+ghost use Rattle.laws.specs.Fields.{field};
 ghost use Rattle.kinds.specs.Kinds.{lanes};
-ghost use Rattle.kinds.specs.Rule.{Width, Sane, Laid, shape, laneOf, elementOf, rowsOf, columnsOf};
+ghost use Rattle.kinds.specs.Rule.{Laid};
 ghost use Rattle.kinds.specs.Refusals.{told, after};
-ghost use Rattle.warp.specs.Buffers.{elementAt, entryAt, unpacked, unpackedOf};
+ghost use Rattle.laws.specs.Toward.{stores, Brings, Below};
+ghost use Rattle.warp.specs.Buffers.{elementAt, unpacked, unpackedOf};
+ghost use Rattle.warp.specs.Stretches.{sizeOf, stretchesOf, OfLane, OfQuad};
+ghost use Rattle.unpack.specs.Workers.{Unpacks};
 ghost use Rattle.unpack.specs.Answers.{unpackBy, unpackAnswer};
 use kinds::Kind;
 use kinds::Known;
@@ -17,6 +18,8 @@ use kinds::Layout;
 use kinds::Refusal;
 use kinds::Role;
 use kinds::Verdict;
+use warp::Quad;
+use warp::Stretch;
 
 // Word k, as a wider number.
 fn word(words: &[u32], k: usize) -> u64
@@ -26,235 +29,74 @@ fn word(words: &[u32], k: usize) -> u64
     words[k] as u64
 }
 
-// Element i of a lane with so many words.
-fn element(words: &[u32], bits: usize, each: usize, lane: usize, i: usize) -> u64
-    requires { ⌜ Width bits × (each ≤ 8) × (lane < lanes) × (bits * (i + 1) ≤ 32 * each) × (length (now words) ≡ lanes * each) ⌝ }
-    ensures { λ r. ⌜ r ≡ elementAt bits each (now (words .entry)) lane i ⌝ }
+// The fields of a word, stored from base on, step apart.
+fn scatter(matrix: &mut [u64], word: u64, bits: usize, side: usize, base: usize, step: usize)
+    requires { ⌜ (bits * side ≤ 32) × (side ≤ 32) × (bits < 32) × (base < 524288) × (step ≤ 128) ⌝ }
+    requires { ⌜ ((j : ℕ) → j < side → base + j * step < length (now matrix)) ⌝ }
+    ensures { λ _. ⌜ now (matrix .exit) ≡ stores base step side (λ j. field bits j word) (now (matrix .entry)) ⌝ }
 {
-    let at = lane * each;
-    if bits == 64 {
-        let low = word(words, at + 2 * i);
-        let high = word(words, at + 2 * i + 1);
+    let mut j = 0;
+    while j < side {
+        matrix[base + j * step] = warp::field_of(word, bits, j);
+        j += 1;
+    }
+}
+
+// The one element of a stretch, where it takes a word, or two.
+fn element(words: &[u32], f: Layout, stretch: Stretch, lane: Lane) -> u64
+    requires { ⌜ Laid f × (length (now words) ≡ lanes * f .words) × (32 ≤ f .bits) × (stretch .0 < stretchesOf f) × (lane .0 < lanes) ⌝ }
+    ensures { λ r. ⌜ r ≡ elementAt (f .bits) (f .words) (now (words .entry)) (lane .0) (stretch .0) ⌝ }
+{
+    let at = lane.0 as usize * f.words;
+    let r = stretch.0;
+    if f.bits == 64 {
+        let low = word(words, at + r * 2);
+        let high = word(words, at + (r * 2 + 1));
         return high * 4294967296 + low;
     }
-    let per = 32 / bits;
-    warp::field_of(word(words, at + i / per), bits, i % per)
+    word(words, at + r)
 }
 
-// The entry at a major number x and a minor number y.
-pub fn entry_at(
-    words: &[u32],
-    bits: usize,
-    each: usize,
-    side: usize,
-    halves: usize,
-    spans: usize,
-    x: usize,
-    y: usize,
-) -> u64
-    requires { ⌜ Sane bits each side halves spans × (length (now words) ≡ lanes * each) × (x < halves * 8) × (y < spans * 4 * side) ⌝ }
-    ensures { λ r. ⌜ r ≡ elementAt bits each (now (words .entry)) (laneOf side x y) (elementOf side halves x y) ⌝ }
+// One stretch of a lane: the fields of a word, or one element.
+fn fill_lane(words: &[u32], matrix: &mut [u64], f: Layout, stretch: Stretch, lane: Lane)
+    requires { ⌜ Unpacks f (now words) (now matrix) × (stretch .0 < stretchesOf f) × (lane .0 < lanes) ⌝ }
+    ensures { λ _. ⌜ Brings (unpacked f (now (words .entry))) (OfLane f (sizeOf f) (stretch .0) (lane .0)) (now (matrix .entry)) (now (matrix .exit)) ⌝ }
 {
-    let lane = kinds::rule::lane_at(side, x, y);
-    let i = kinds::rule::element_at(side, halves, x, y);
-    element(words, bits, each, lane, i)
+    let base = warp::base_of(f, stretch, lane);
+    if f.bits < 32 {
+        let step = warp::step_of(f);
+        let fields = word(words, lane.0 as usize * f.words + stretch.0);
+        return scatter(matrix, fields, f.bits, f.side, base, step);
+    }
+    matrix[base] = element(words, f, stretch, lane);
 }
 
-fn pick(first: bool, x: usize, y: usize) -> usize
-    ensures { λ r. ⌜ r ≡ (if first then x else y) ⌝ }
+// The same stretch of a quad's lanes, and of every quad's.
+fn fill_quad(words: &[u32], matrix: &mut [u64], f: Layout, stretch: Stretch, quad: Quad)
+    requires { ⌜ Unpacks f (now words) (now matrix) × (stretch .0 < stretchesOf f) × (quad .0 < 8) ⌝ }
+    ensures { λ _. ⌜ Brings (unpacked f (now (words .entry))) (OfQuad f (sizeOf f) (stretch .0) (quad .0)) (now (matrix .entry)) (now (matrix .exit)) ⌝ }
 {
-    if first { x } else { y }
-}
-
-// The entry at a row and a column.
-fn entry(
-    words: &[u32],
-    bits: usize,
-    each: usize,
-    side: usize,
-    halves: usize,
-    spans: usize,
-    turned: bool,
-    row: usize,
-    column: usize,
-) -> u64
-    requires { ⌜ Sane bits each side halves spans × (length (now words) ≡ lanes * each) ⌝ }
-    requires { ⌜ (row < rowsOf (shape bits each side halves spans turned)) × (column < columnsOf (shape bits each side halves spans turned)) ⌝ }
-    ensures { λ r. ⌜ r ≡ entryAt (shape bits each side halves spans turned) (now (words .entry)) row column ⌝ }
-{
-    let x = pick(turned, column, row);
-    let y = pick(turned, row, column);
-    entry_at(words, bits, each, side, halves, spans, x, y)
-}
-
-fn fill_row(
-    words: &[u32],
-    matrix: &mut [u64],
-    bits: usize,
-    each: usize,
-    side: usize,
-    halves: usize,
-    spans: usize,
-    turned: bool,
-    row: usize,
-    columns: usize,
-)
-    requires { ⌜ Sane bits each side halves spans × (length (now words) ≡ lanes * each) ⌝ }
-    requires { ⌜ (row < rowsOf (shape bits each side halves spans turned)) × (columns ≡ columnsOf (shape bits each side halves spans turned)) × (row * columns + columns ≤ length (now matrix)) ⌝ }
-    ensures { λ _. ⌜ now (matrix .exit) ≡ fills (row * columns) columns (entryAt (shape bits each side halves spans turned) (now (words .entry)) row) (now (matrix .entry)) ⌝ }
-{
-    let mut column = 0;
-    while column < columns {
-        matrix[row * columns + column] = entry(
-            words,
-            bits,
-            each,
-            side,
-            halves,
-            spans,
-            turned,
-            row,
-            column,
-        );
-        column += 1;
+    for t in 0..Lane::QUAD {
+        fill_lane(words, matrix, f, stretch, quad.lane(t));
     }
 }
 
-pub fn fill(
-    words: &[u32],
-    matrix: &mut [u64],
-    bits: usize,
-    each: usize,
-    side: usize,
-    halves: usize,
-    spans: usize,
-    turned: bool,
-    rows: usize,
-    columns: usize,
-)
-    requires { ⌜ Sane bits each side halves spans × (length (now words) ≡ lanes * each) ⌝ }
-    requires { ⌜ (rows ≡ rowsOf (shape bits each side halves spans turned)) × (columns ≡ columnsOf (shape bits each side halves spans turned)) × (length (now matrix) ≡ rows * columns) ⌝ }
-    ensures { λ _. ⌜ now (matrix .exit) ≡ unpacked (shape bits each side halves spans turned) (now (words .entry)) ⌝ }
+fn fill_quads(words: &[u32], matrix: &mut [u64], f: Layout, stretch: Stretch)
+    requires { ⌜ Unpacks f (now words) (now matrix) × (stretch .0 < stretchesOf f) ⌝ }
+    ensures { λ _. ⌜ Brings (unpacked f (now (words .entry))) (Below 8 (OfQuad f (sizeOf f) (stretch .0))) (now (matrix .entry)) (now (matrix .exit)) ⌝ }
 {
-    let mut row = 0;
-    while row < rows {
-        fill_row(
-            words,
-            matrix,
-            bits,
-            each,
-            side,
-            halves,
-            spans,
-            turned,
-            row,
-            columns,
-        );
-        row += 1;
+    for quad in 0..Quad::COUNT {
+        fill_quad(words, matrix, f, stretch, Quad(quad));
     }
 }
 
-// A layout's matrix, by a width, a side and a turn that are the layout's own.
-fn fill_with(words: &[u32], matrix: &mut [u64], f: Layout, bits: usize, side: usize, turned: bool)
-    requires { ⌜ Laid f × (length (now words) ≡ lanes * f .words) × (length (now matrix) ≡ rowsOf f * columnsOf f) ⌝ }
-    requires { ⌜ (f .bits ≡ bits) × (f .side ≡ side) × (f .turned ≡ turned) ⌝ }
+pub fn fill(words: &[u32], matrix: &mut [u64], f: Layout)
+    requires { ⌜ Unpacks f (now words) (now matrix) ⌝ }
     ensures { λ _. ⌜ now (matrix .exit) ≡ unpacked f (now (words .entry)) ⌝ }
 {
-    let rows = warp::rows_in(f);
-    let columns = warp::columns_in(f);
-    fill(
-        words,
-        matrix,
-        bits,
-        f.words,
-        side,
-        f.halves,
-        f.spans,
-        turned,
-        rows,
-        columns,
-    );
-}
-
-// The same, with the numbers of each width written out, so that the compiler makes a loop for each: of A and C,
-fn fill_straight(words: &[u32], matrix: &mut [u64], f: Layout)
-    requires { ⌜ Laid f × (length (now words) ≡ lanes * f .words) × (length (now matrix) ≡ rowsOf f * columnsOf f) × (f .turned ≡ false) ⌝ }
-    ensures { λ _. ⌜ now (matrix .exit) ≡ unpacked f (now (words .entry)) ⌝ }
-{
-    let bits = f.bits;
-    let side = f.side;
-    if bits == 1 {
-        return fill_with(words, matrix, f, 1, 32, false);
+    for stretch in 0..warp::stretches_in(f) {
+        fill_quads(words, matrix, f, Stretch(stretch));
     }
-    if bits == 4 {
-        return fill_with(words, matrix, f, 4, 8, false);
-    }
-    if bits == 8 {
-        return fill_with(words, matrix, f, 8, 4, false);
-    }
-    if bits == 16 {
-        return fill_with(words, matrix, f, 16, 2, false);
-    }
-    if bits == 32 {
-        if side == 1 {
-            return fill_with(words, matrix, f, 32, 1, false);
-        }
-        if side == 2 {
-            return fill_with(words, matrix, f, 32, 2, false);
-        }
-    }
-    if bits == 64 {
-        if side == 1 {
-            return fill_with(words, matrix, f, 64, 1, false);
-        }
-        if side == 2 {
-            return fill_with(words, matrix, f, 64, 2, false);
-        }
-    }
-    fill_with(words, matrix, f, bits, side, false);
-}
-
-// and of B.
-fn fill_turned(words: &[u32], matrix: &mut [u64], f: Layout)
-    requires { ⌜ Laid f × (length (now words) ≡ lanes * f .words) × (length (now matrix) ≡ rowsOf f * columnsOf f) × (f .turned ≡ true) ⌝ }
-    ensures { λ _. ⌜ now (matrix .exit) ≡ unpacked f (now (words .entry)) ⌝ }
-{
-    let bits = f.bits;
-    let side = f.side;
-    if bits == 1 {
-        return fill_with(words, matrix, f, 1, 32, true);
-    }
-    if bits == 4 {
-        return fill_with(words, matrix, f, 4, 8, true);
-    }
-    if bits == 8 {
-        return fill_with(words, matrix, f, 8, 4, true);
-    }
-    if bits == 16 {
-        return fill_with(words, matrix, f, 16, 2, true);
-    }
-    if bits == 32 {
-        if side == 1 {
-            return fill_with(words, matrix, f, 32, 1, true);
-        }
-    }
-    if bits == 64 {
-        if side == 1 {
-            return fill_with(words, matrix, f, 64, 1, true);
-        }
-    }
-    fill_with(words, matrix, f, bits, side, true);
-}
-
-fn fill_by_width(words: &[u32], matrix: &mut [u64], f: Layout)
-    requires { ⌜ Laid f × (length (now words) ≡ lanes * f .words) × (length (now matrix) ≡ rowsOf f * columnsOf f) ⌝ }
-    ensures { λ _. ⌜ now (matrix .exit) ≡ unpacked f (now (words .entry)) ⌝ }
-{
-    let turned = f.turned;
-    if turned {
-        return fill_turned(words, matrix, f);
-    }
-    fill_straight(words, matrix, f);
 }
 
 fn unpack_in(f: Layout, words: &[u32], matrix: &mut [u64]) -> Verdict
@@ -271,7 +113,7 @@ fn unpack_in(f: Layout, words: &[u32], matrix: &mut [u64]) -> Verdict
     if matrix.len() != rows * columns {
         return Verdict::Refused(Refusal::WrongLength(1));
     }
-    fill_by_width(words, matrix, f);
+    fill(words, matrix, f);
     Verdict::Accepted
 }
 

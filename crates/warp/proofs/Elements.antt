@@ -4,13 +4,12 @@ use mathlib.Core.Path.{_≡_, sym, ap, ap₂, _∙_, subst}
 use mathlib.Core.Bool.{Bool, true, false}
 use mathlib.Core.List.{List}
 use Prim.Native.Nat.{ℕ, zero, suc, _+_, _*_, _/_, _%_, _^_, _≤_, _<_, zero-le, suc-le-suc}
-use native.Mathlib.Nat.{mul-zero, mul-assoc, mul-comm, mod-lt, div-add-mod', div-lt-iff-lt-mul, le-mul-of-pos-right, mul-lt-mul-of-pos-left, le-of-mul-le-mul-left, mul-le-mul-left, mul-suc}
+use native.Mathlib.Nat.{mul-zero, mul-assoc, mul-comm, mod-lt, div-add-mod', div-lt-iff-lt-mul, le-mul-of-pos-right, le-of-mul-le-mul-left}
 use native.Mathlib.Omega.{arith}
 use lib.ListN.{getD}
 use Rattle.laws.specs.Fields.{field, joined}
 use Rattle.laws.proofs.Fields.{field-joined, field-field, field-wide, joined-ext, joined-two}
-use Rattle.kinds.specs.Rule.{Width, Sane, elementOf, turn}
-use Rattle.kinds.proofs.Digits.{element-lt}
+use Rattle.kinds.specs.Rule.{Width, turn}
 use Rattle.warp.specs.Buffers.{laneNumber, elementAt}
 
 per-pos : (b p : ℕ) → b * p ≡ 32 → 0 < p
@@ -24,9 +23,6 @@ module _ (b : ℕ) (w : Width b) (ne : b ≡ 64 → ⊥) where
 
   pub bits-le : b ≤ 32
   bits-le = omega (arith, le-mul-of-pos-right b pos, w .narrow ne)
-
-  pub shift-lt : (i : ℕ) → b * (i % (32 / b)) < 32
-  shift-lt i = subst (λ (z : ℕ). b * (i % (32 / b)) < z) (w .narrow ne) (mul-lt-mul-of-pos-left (mod-lt i pos) (w .pos))
 
   -- an element that lies within n words lies within one of them
   pub word-in : (i n : ℕ) → b * (i + 1) ≤ 32 * n → i / (32 / b) < n
@@ -50,6 +46,17 @@ module _ (words : ℕ) (ws : List ℕ) (lane : ℕ) (fit : (k : ℕ) → k < wor
       ∙ sym (field-field bits per (i / per) (i % per) (laneNumber words ws lane) (mod-lt i some))
       ∙ ap (field bits (i % per)) (ap (λ (b : ℕ). field b (i / per) (laneNumber words ws lane)) e ∙ word-field (i / per) h)
 
+  -- field j of word k
+  pub element-field : (bits per k j : ℕ) → bits * per ≡ 32 → j < per → k < words → elementAt bits words ws lane (k * per + j) ≡ field bits j (getD ws (lane * words + k) 0)
+  unfolding elementAt
+  element-field bits per k j e l h =
+      sym (field-field bits per k j (laneNumber words ws lane) l)
+      ∙ ap (field bits j) (ap (λ (b : ℕ). field b k (laneNumber words ws lane)) e ∙ word-field k h)
+
+  pub element-whole : (i : ℕ) → i < words → elementAt 32 words ws lane i ≡ getD ws (lane * words + i) 0
+  unfolding elementAt
+  element-whole i h = word-field i h
+
   pub element-two : (i : ℕ) → 2 * i + 1 < words → elementAt 64 words ws lane i ≡ getD ws (lane * words + 2 * i + 1) 0 * 2 ^ 32 + getD ws (lane * words + 2 * i) 0
   unfolding elementAt
   element-two i h =
@@ -72,12 +79,6 @@ module _ (elements : ℕ) (f : ℕ → ℕ) where
       ap (λ (j : ℕ). field 32 j (joined 64 elements f)) (sym (div-add-mod' k 2))
       ∙ sym (field-field 32 2 (k / 2) (k % 2) (joined 64 elements f) (omega arith))
       ∙ ap (field 32 (k % 2)) (field-joined 64 elements f fit (k / 2) h)
-
--- the element at a major and a minor number lies within its lane's words
-pub held-in : (b w p h s x y : ℕ) → Sane b w p h s → x < h * 8 → y < s * 4 * p → b * (elementOf p h x y + 1) ≤ 32 * w
-held-in b w p h s x y ok hx hy =
-    let l : elementOf p h x y < s * h * p = element-lt p h (ok .side-pos) (ok .halves-pos) s x y hx hy in
-    omega (arith, mul-le-mul-left b l, ok .full, mul-suc b (elementOf p h x y))
 
 -- a row and a column inside are a major and a minor number inside
 pub turned-in : (t : Bool) (m n x y : ℕ) → x < turn t (m, n) .0 → y < turn t (m, n) .1 → (turn t (x, y) .0 < m) × (turn t (x, y) .1 < n)

@@ -2,3 +2,4 @@ pub mod Elements
 pub mod Places
 pub mod Round
 pub mod Placed
+pub mod Stretches

@@ -1,6 +1,5 @@
 -- The numbers of a kind and a role are those of its layout: the lengths it needs, the index of a place, an element's field. Assumes nothing.
 use mathlib.Core.Path.{_≡_, sym, ap, ap₂, _∙_}
-use mathlib.Core.Bool.{Bool}
 use mathlib.Core.List.{List}
 use Prim.Native.Nat.{ℕ, _*_, _<_}
 use lib.ListN.{getD}
@@ -12,13 +11,8 @@ use Rattle.kinds.specs.declared.Layout.{Layout}
 use Rattle.kinds.proofs.Table.{Legal, layoutAt, sane, rows-are, columns-are, bits-are, words-are}
 use Rattle.kinds.proofs.Answers.{place-is, placed-inside, rule-placed, place-legal}
 use Rattle.warp.specs.Buffers.{elementAt, elementIn, index, wordsNeeded, entriesNeeded}
-
--- a layout whose bits, side and turn are known
-pub with-numbers : (f : Layout) (b p : ℕ) (t : Bool) → f .bits ≡ b → f .side ≡ p → f .turned ≡ t
-    → f ≡ record { bits = b; words = f .words; side = p; halves = f .halves; spans = f .spans; turned = t }
-with-numbers f b p t eb ep et =
-    ap₂ (λ (b p : ℕ). record { bits = b; words = f .words; side = p; halves = f .halves; spans = f .spans; turned = f .turned }) eb ep
-    ∙ ap (λ (t : Bool). record { bits = b; words = f .words; side = p; halves = f .halves; spans = f .spans; turned = t }) et
+use Rattle.warp.specs.Stretches.{lengthsOf}
+use Rattle.warp.specs.declared.Lengths.{Lengths}
 
 module _ (k r : ℕ) (ok : Legal k r) where
   pub words-needed : lanes * layoutAt k r .words ≡ wordsNeeded k r
@@ -61,3 +55,14 @@ module _ (k r : ℕ) (ok : Legal k r) where
       ap (λ (z : ℕ). getD m z 0) (index-is (placeIn f lane i))
       ∙ at lane i (placeIn f lane i) (sym (place-is k r ok lane i) ∙ rule-placed f lane i hl hi)
       ∙ sym (element-is ws lane i)
+
+-- the lengths looked up are those that are needed
+module _ (k : ℕ) (n : Lengths) (e : n ≡ lengthsOf k) where
+  pub length-a : n .a ≡ wordsNeeded k 0
+  length-a = ap (λ (n : Lengths). n .a) e
+
+  pub length-b : n .b ≡ wordsNeeded k 1
+  length-b = ap (λ (n : Lengths). n .b) e
+
+  pub length-c : n .c ≡ wordsNeeded k 2
+  length-c = ap (λ (n : Lengths). n .c) e

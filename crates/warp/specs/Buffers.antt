@@ -1,6 +1,5 @@
 -- Document 01, 'Kinds': what stands in a warp buffer and in a matrix buffer. Assumes nothing.
 use Prim.Native.Nat.{ℕ, _+_, _*_, _^_, _<_}
-use mathlib.Core.Path.{_≡_}
 use mathlib.Core.Bool.{Bool, true, false}
 use mathlib.Core.List.{List}
 use lib.ListN.{length, getD}
@@ -37,11 +36,6 @@ entryAt f ws row column = elementAt (f .bits) (f .words) ws (holderOf f (row, co
 
 unfoldable pub unpacked : Layout → List ℕ → List ℕ
 unpacked f ws = tab (rowsOf f * columnsOf f) (blocks (columnsOf f) (entryAt f ws))
-
--- a buffer that holds a layout's matrix
-pub record Matrix (f : Layout) (columns : ℕ) (m : List ℕ) : Type 0 where
-  pub wide : columns ≡ columnsOf f
-  pub whole : length m ≡ rowsOf f * columnsOf f
 
 -- Packing: each element of a lane is the entry at its place; the lane's words are the words of that number.
 unfoldable pub wordAt : Layout → List ℕ → (lane k : ℕ) → ℕ

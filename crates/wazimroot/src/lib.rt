@@ -22,18 +22,18 @@ use kinds::Element;
 use kinds::Held;
 use kinds::Kind;
 use kinds::Lane;
+use kinds::Mode;
 use kinds::Placed;
 use kinds::Refusal;
 use kinds::Role;
 use kinds::Row;
+use kinds::Signs;
 use kinds::Verdict;
 use run::Run;
 use scale::ByteId;
 use scale::Side;
 use scale::Size;
 use scale::ThreadId;
-use step::Mode;
-use step::Signs;
 
 // A refusal's number, and its detail in the high half.
 fn code(refusal: Refusal) -> u64

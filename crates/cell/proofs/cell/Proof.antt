@@ -15,7 +15,7 @@ wrapping-sub-u32-requires c κs = search needs
 returns : tie.Need-returns
 returns c =
     let s = c .before .before .before .args in
-    wrapped (s .mode) (s .c) (s .plus) (s .minus) (omega arith) (c .before .before .if1 .taken) (omega arith) (c .wrapping-sub-u32 .ensures ∙ c .before .wrapping-add-u32 .ensures)
+    wrapped (s .mode .0) (s .c) (s .plus) (s .minus) (omega arith) (c .before .before .if1 .taken) (omega arith) (c .wrapping-sub-u32 .ensures ∙ c .before .wrapping-add-u32 .ensures)
 
 wrapping-add-u32-requires-2 : tie.Need-wrapping-add-u32-requires-2
 wrapping-add-u32-requires-2 c κs = search needs
@@ -29,7 +29,7 @@ add-above c = search needs
 returns-2 : tie.Need-returns-2
 returns-2 c =
     let s = c .before .before .before .args in
-    clamped (s .mode) (s .c) (s .plus) (s .minus) (omega arith) (omega arith) (omega arith)
+    clamped (s .mode .0) (s .c) (s .plus) (s .minus) (omega arith) (omega arith) (omega arith)
 
 sub-exact : tie.Need-sub-exact
 sub-exact c = search needs
@@ -43,12 +43,12 @@ wrapping-add-u32-requires-3 c κs = search needs
 returns-3 : tie.Need-returns-3
 returns-3 c =
     let s = c .before .before .before .before .before .args in
-    clamped (s .mode) (s .c) (s .plus) (s .minus) (omega arith) (omega arith) (omega arith)
+    clamped (s .mode .0) (s .c) (s .plus) (s .minus) (omega arith) (omega arith) (omega arith)
 
 returns-4 : tie.Need-returns-4
 returns-4 c =
     let s = c .before .before .before .before .args in
-    clamped (s .mode) (s .c) (s .plus) (s .minus) (omega arith) (omega arith) (omega arith)
+    clamped (s .mode .0) (s .c) (s .plus) (s .minus) (omega arith) (omega arith) (omega arith)
 
 pub cell-spec : {M : Type 1} → statement M
 cell-spec =

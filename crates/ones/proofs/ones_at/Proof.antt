@@ -1,95 +1,92 @@
--- After q turns the sum is the ones among the first 32 q combined bits. Assumes nothing.
+-- After t turns the sum is the ones among the first 32 t combined bits, which stand in the row's and the column's first t words. Assumes nothing.
 use borrow.Author.Needs.{needs}
-use mathlib.Core.Path.{_≡_, refl, sym, ap, _∙_}
+use mathlib.Core.Path.{_≡_, refl, ap, _∙_}
 use Prim.Native.Nat.{ℕ, _+_, _*_, _-_, _<_, _≤_}
-use native.Mathlib.Nat.{mul-one}
 use native.Mathlib.Omega.{arith}
 use denote.Ref.{now}
-use lib.ListN.{length}
 use Rattle.laws.specs.Bits.{onesIn}
 use Rattle.laws.specs.Lists.{tab}
 use Rattle.ones.specs.Combined.{bitsOf}
-use Rattle.ones.proofs.Counts.{place, Within, within, place-lt, ones-more}
+use Rattle.ones.proofs.Counts.{place, Within, within, ones-more}
 use Rattle.ones.proofs.ones_at.Statement.{statement}
 use Rattle.ones.proofs.ones_at.Tie as tie
 
 abbrev Inv-loop : tie.InvT-loop
-Inv-loop mode each-a halves each-b a b row column count sum₀ q₀ sum q =
-    (q ≤ count) × (sum ≤ 32 * q) × (sum ≡ onesIn (bitsOf mode (32 * q) each-a halves each-b a b row column))
+Inv-loop mode a b row column sum₀ t₀ sum t = (t ≤ 4) × (sum ≤ 32 * t) × (sum ≡ onesIn (bitsOf (mode .0) (32 * t) 1 1 1 a b row column))
 
 abbrev μ-loop : tie.MeasureT-loop
-μ-loop mode each-a halves each-b a b row column count sum₀ q₀ sum q = count - q
+μ-loop mode a b row column sum₀ t₀ sum t = 4 - t
 
-module _ (c : tie.In-loop Inv-loop μ-loop) where
-  abbrev S : tie.Start Inv-loop μ-loop
-  S = c .before .before .before .before
+-- word t of a row or a column
+module _ (x t : ℕ) (hx : x < 8) (ht : t < 4) where
+  inside : Within 1 1 x t
+  inside = within 1 1 1 x t refl (omega arith) (omega arith)
 
-  abbrev Q : ℕ
-  Q = c .before .loop .q
-
-  in-a : Within (S .args .each-a) (S .args .halves) (S .args .row) Q
-  in-a = within (S .args .each-b) (S .args .each-a) (S .args .halves) (S .args .row) Q (S .pre .1 .3) (omega (arith, S .pre .1 .2)) (omega arith)
-
-  in-b : Within (S .args .each-b) 1 (S .args .column) Q
-  in-b = within (S .args .each-b) (S .args .each-b) 1 (S .args .column) Q (sym (mul-one (S .args .each-b))) (omega (arith, S .pre .1 .2)) (omega arith)
-
-  at-a : place (S .args .each-a) (S .args .halves) (S .args .row) Q < length (now (S .args .a))
-  at-a = place-lt (S .args .each-a) (S .args .halves) (S .args .row) Q (length (now (S .args .a))) in-a (S .pre .1 .0)
-
-  at-b : place (S .args .each-b) 1 (S .args .column) Q < length (now (S .args .b))
-  at-b = place-lt (S .args .each-b) 1 (S .args .column) Q (length (now (S .args .b))) in-b (S .pre .1 .1)
+  at : x * 4 + t ≡ place 1 1 x t
+  at = omega arith
 
 loop-holds : tie.Need-loop-holds Inv-loop μ-loop
 unfolding bitsOf tab onesIn
 loop-holds c = (search needs, search needs, refl)
 
-word-at-requires : tie.Need-word-at-requires Inv-loop μ-loop
-word-at-requires c κs = search needs
-
 mul-word-ones : tie.Need-mul-word-ones Inv-loop μ-loop
-mul-word-ones c = omega (arith, at-a (c .before), c .word-at .ensures)
+mul-word-ones c = search needs
 
-shared-slice-read-word-ones : tie.Need-shared-slice-read-word-ones Inv-loop μ-loop
-shared-slice-read-word-ones c = rw (c .before .word-at .ensures) (at-a (c .before .before))
-
-word-at-requires-2 : tie.Need-word-at-requires-2 Inv-loop μ-loop
-word-at-requires-2 c κs = search needs
+add-word-ones : tie.Need-add-word-ones Inv-loop μ-loop
+add-word-ones c = search needs
 
 mul-word-ones-2 : tie.Need-mul-word-ones-2 Inv-loop μ-loop
-mul-word-ones-2 c = omega (arith, at-b (c .before .before .before), c .word-at2 .ensures)
+mul-word-ones-2 c = search needs
+
+shared-slice-read-word-ones : tie.Need-shared-slice-read-word-ones Inv-loop μ-loop
+shared-slice-read-word-ones c = search needs
+
+mul-word-ones-3 : tie.Need-mul-word-ones-3 Inv-loop μ-loop
+mul-word-ones-3 c = search needs
+
+add-word-ones-2 : tie.Need-add-word-ones-2 Inv-loop μ-loop
+add-word-ones-2 c = search needs
+
+mul-word-ones-4 : tie.Need-mul-word-ones-4 Inv-loop μ-loop
+mul-word-ones-4 c = search needs
 
 shared-slice-read-word-ones-2 : tie.Need-shared-slice-read-word-ones-2 Inv-loop μ-loop
-shared-slice-read-word-ones-2 c = rw (c .before .word-at2 .ensures) (at-b (c .before .before .before .before))
+shared-slice-read-word-ones-2 c = search needs
 
 word-ones-requires : tie.Need-word-ones-requires Inv-loop μ-loop
 word-ones-requires c κs = search needs
 
 add-sum : tie.Need-add-sum Inv-loop μ-loop
-add-sum c = omega arith
+add-sum c = search needs
 
-add-q : tie.Need-add-q Inv-loop μ-loop
-add-q c = omega arith
+add-t : tie.Need-add-t Inv-loop μ-loop
+add-t c = search needs
 
 loop-less : tie.Need-loop-less Inv-loop μ-loop
-loop-less c = omega arith
+loop-less c = search needs
 
 loop-again : tie.Need-loop-again Inv-loop μ-loop
 loop-again c =
-    let k = c .before .before .before .before .before in
-    let s = S k .args in
-    let l = k .before .loop in
-    let m = ones-more (s .mode) (s .each-a) (s .halves) (s .each-b) (now (s .a)) (now (s .b)) (s .row) (s .column) (l .q) _ _ (c .word-ones .result)
-    (λ i. c .before .before .before .before .before .before .before .before .shared-slice-known .given i .fits)
-    (λ i. c .before .before .before .before .before .before .before .shared-slice-known2 .given i .fits)
-    (in-a k) (in-b k) (c .before .before .before .before .word-at .ensures) (c .before .before .word-at2 .ensures) (c .word-ones .ensures .0) in
-    (omega arith, omega arith, ap (λ (x : ℕ). x + c .word-ones .result) (l .inv .2) ∙ m)
+    let l = c .before .before .before .before in
+    let s = l .before .before .before in
+    let x = s .args in
+    let t = l .loop .t in
+    let row : x .row < 8 = omega arith in
+    let column : x .column < 8 = omega arith in
+    let more : t < 4 = omega arith in
+    let m =
+    ones-more (x .mode .0) 1 1 1 (now (x .a)) (now (x .b)) (x .row) (x .column) t _ _ (c .word-ones .result)
+    (λ i. l .before .before .shared-slice-known .given i .fits)
+    (λ i. l .before .shared-slice-known2 .given i .fits)
+    (inside _ _ row more) (inside _ _ column more) (at _ _ row more) (at _ _ column more) (c .word-ones .ensures .0) in
+    (omega arith, omega arith, ap (λ (n : ℕ). n + c .word-ones .result) (l .loop .inv .2) ∙ m)
 
 returns : tie.Need-returns Inv-loop μ-loop
 returns c =
-    let s = c .before .before .before .before .args in
+    let x = c .before .before .before .before .args in
     let l = c .before .loop in
-    let n : l .q ≡ s .count = omega arith in
-    (l .inv .2 ∙ ap (λ (x : ℕ). onesIn (bitsOf (s .mode) (32 * x) (s .each-a) (s .halves) (s .each-b) (now (s .a)) (now (s .b)) (s .row) (s .column))) n, omega arith)
+    let n : l .t ≡ 4 = omega arith in
+    (l .inv .2 ∙ ap (λ (t : ℕ). onesIn (bitsOf (x .mode .0) (32 * t) 1 1 1 (now (x .a)) (now (x .b)) (x .row) (x .column))) n, omega arith)
 
 pub ones-at-spec : {M : Type 1} → statement M
 ones-at-spec =
@@ -98,15 +95,17 @@ ones-at-spec =
     Inv-loop
     μ-loop
     loop-holds
-    word-at-requires
     mul-word-ones
-    shared-slice-read-word-ones
-    word-at-requires-2
+    add-word-ones
     mul-word-ones-2
+    shared-slice-read-word-ones
+    mul-word-ones-3
+    add-word-ones-2
+    mul-word-ones-4
     shared-slice-read-word-ones-2
     word-ones-requires
     add-sum
-    add-q
+    add-t
     loop-less
     loop-again
     returns)

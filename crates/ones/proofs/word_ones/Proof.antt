@@ -17,7 +17,7 @@ returns c =
 returns-2 : tie.Need-returns-2
 returns-2 c =
     let s = c .before .args in
-    let one : s .mode ≡ 1 = omega arith in (
+    let one : s .mode .0 ≡ 1 = omega arith in (
       rw one (ones-and (s .x) (s .y) (omega arith) (omega arith)),
       ones-le 32 (bitAnd (s .x) (s .y)) (and-lt 32 (s .x) (s .y) (omega arith) (omega arith)),
     )

@@ -62,12 +62,17 @@ whole c =
     let s = c .before .before .before .before .before .before .before .before in
     omega (arith, first-le (s .args .f .bits) (now (s .args .matrix)), c .before .first-wide .ensures, c .if3 .left)
 
-fill-words-by-width-requires : tie.Need-fill-words-by-width-requires
-fill-words-by-width-requires c κs =
+fill-words-requires : tie.Need-fill-words-requires
+fill-words-requires c κs =
     let e = c .before in
     let w = e .before in
     let s = w .before .before .before .before .before .before .before in
-    (s .pre, first-fits (s .args .f .bits) (now (s .args .matrix)) (whole e), w .before .before .if1 .left ∙ size (w .before .before .before), w .before .if2 .left)
+    record {
+      laid = s .pre;
+      fitting = first-fits (s .args .f .bits) (now (s .args .matrix)) (whole e);
+      entries = w .before .before .if1 .left ∙ size (w .before .before .before);
+      words = w .before .if2 .left;
+    }
 
 same-length : tie.Need-same-length
 same-length c = search needs
@@ -78,7 +83,7 @@ returns-4 c =
     let e = c .before .before .before .before in
     let w = e .before in
     let s = w .before .before .before .before .before .before .before in
-    (simp (eq-eqb _ _ (w .before .before .if1 .left ∙ size (w .before .before .before)), eq-eqb _ _ (w .before .if2 .left), le-ltb (firstWide (s .args .f .bits) (now (s .args .matrix))) (length (now (s .args .matrix))) (omega (arith, whole e))), c .before .before .fill-words-by-width .ensures)
+    (simp (eq-eqb _ _ (w .before .before .if1 .left ∙ size (w .before .before .before)), eq-eqb _ _ (w .before .if2 .left), le-ltb (firstWide (s .args .f .bits) (now (s .args .matrix))) (length (now (s .args .matrix))) (omega (arith, whole e))), c .before .before .fill-words .ensures)
 
 pub pack-in-spec : {M : Type 1} → statement M
 pack-in-spec =
@@ -93,6 +98,6 @@ pack-in-spec =
     first-wide-requires
     cast-t14
     returns-3
-    fill-words-by-width-requires
+    fill-words-requires
     same-length
     returns-4)

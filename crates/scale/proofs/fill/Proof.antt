@@ -1,83 +1,137 @@
--- The loop's invariant: the numbers passed stand in the output, and the rest as it was. The measure is what is left. Assumes nothing.
+-- After k turns the numbers of the first k chosen lanes stand in the output, and the rest as it was. Assumes nothing.
 use mathlib.Core.Path.{_≡_, refl, sym, ap, ap₂, _∙_}
 use mathlib.Core.List.{List}
-use Prim.Native.Nat.{ℕ, _+_, _-_, _≤_}
+use Prim.Native.Nat.{ℕ, _+_, _*_, _-_, _<_, _≤_}
+use native.Mathlib.Nat.{zero-add, zero-mul}
 use native.Mathlib.Omega.{arith}
 use borrow.Author.Needs.{needs}
 use denote.Ref.{now}
 use lib.IntN.{ℤ}
-use lib.ListN.{length, getD, set}
-use mir.Syntax.{w32}
-use mir.ValLaws.{toZ-ofZ}
-use Rattle.laws.specs.Lists.{fills}
-use Rattle.laws.proofs.Lists.{length-fills, fills-front, fills-all}
-use Rattle.scale.specs.Bytes.{chosenBytes, exponent, outputLength}
-use Rattle.scale.specs.declared.Size.{Size}
-use Rattle.scale.specs.declared.Side.{Side}
-use Rattle.scale.specs.declared.ByteId.{ByteId}
-use Rattle.scale.specs.declared.ThreadId.{ThreadId}
-use Rattle.scale.proofs.Legal.{output-le}
-use Rattle.scale.proofs.Laws.{scaled-tab}
+use lib.ListN.{length, getD}
+use Rattle.laws.specs.Lists.{fills, blocks}
+use Rattle.laws.proofs.Lists.{block-le, length-fills, fills-block, fills-all}
+use Rattle.scale.specs.Bytes.{chosenLanes, byteOf, exponent, outputLength}
+use Rattle.scale.proofs.Legal.{bytes-fit, output-le}
+use Rattle.scale.proofs.Laws.{by-one, number, scaled-tab}
 use Rattle.scale.proofs.fill.Statement.{statement}
 use Rattle.scale.proofs.fill.Tie as tie
 
--- number x of the output
-abbrev number : Size → Side → ByteId → ThreadId → List ℕ → ℕ → ℤ
-number size side b t m x = exponent (getD (chosenBytes (size .0) (side .0) (b .0) (t .0) m) x 0)
-
 abbrev Inv-loop : tie.InvT-loop
-Inv-loop size side byte-id thread-id metadata out₀ x₀ out x = (x ≤ length out₀) × (out ≡ fills 0 x (number size side byte-id thread-id metadata) out₀) × (length out ≡ length out₀)
+Inv-loop size side byte-id thread-id metadata out₀ k₀ k-end out k =
+    (k ≤ k-end) × (out ≡ fills 0 (k * size .0) (blocks (size .0) (number (side .0) (byte-id .0) (thread-id .0) metadata)) out₀) × (length out ≡ length out₀)
 
 abbrev μ-loop : tie.MeasureT-loop
-μ-loop size side byte-id thread-id metadata out₀ x₀ out x = length out₀ - x
+μ-loop size side byte-id thread-id metadata out₀ k₀ k-end out k = k-end - k
+
+abbrev numbers : tie.Start Inv-loop μ-loop → ℕ → ℤ
+numbers s = blocks (s .args .size .0) (number (s .args .side .0) (s .args .byte-id .0) (s .args .thread-id .0) (now (s .args .metadata)))
+
+-- chosen lane number k: it is small, its bytes lie in a word, and its numbers in the output, which is small
+module _ (c : tie.In-loop Inv-loop μ-loop) where
+  abbrev S : tie.Start Inv-loop μ-loop
+  S = c .before .before .before .before
+
+  abbrev K : ℕ
+  K = c .before .loop .k
+
+  abbrev N : ℕ
+  N = S .args .size .0
+
+  below : K < outputLength 1 (S .args .side .0)
+  below = omega (arith, c .before .before .output-length .ensures)
+
+  few : K < 64
+  few = omega (arith, below, output-le 1 (S .args .side .0) (omega arith))
+
+  fit : S .args .byte-id .0 + N ≤ 4
+  fit = bytes-fit N (S .args .byte-id .0) (S .pre .0 .byte-id) .1
+
+  block : K * N + N ≤ outputLength N (S .args .side .0)
+  block = rw by-one (block-le K (outputLength 1 (S .args .side .0)) N below)
+
+  small : K * N + N ≤ 64
+  small = omega (arith, block, output-le N (S .args .side .0) (omega (arith, fit)))
+
+-- one chosen lane more
+lane-more : (s side b t : ℕ) (m : List ℕ) (out : List ℤ) (k : ℕ) {lane : ℕ} {xs ys : List ℤ}
+    → lane ≡ getD (chosenLanes side t) k 0 → xs ≡ fills 0 (k * s) (blocks s (number side b t m)) out → ys ≡ fills (k * s) s (λ j. exponent (byteOf (getD m lane 0) (b + j))) xs
+    → ys ≡ fills 0 ((k + 1) * s) (blocks s (number side b t m)) out
+lane-more s side b t m out k el ex ey =
+    let g = number side b t m in
+    ey
+    ∙ ap₂ (λ (lane : ℕ) (xs : List ℤ). fills (k * s) s (λ j. exponent (byteOf (getD m lane 0) (b + j))) xs) el ex
+    ∙ ap (λ (base : ℕ). fills base s (g k) (fills 0 (k * s) (blocks s g) out)) (sym (zero-add (k * s)))
+    ∙ fills-block 0 k s g out
+
+output-length-requires : tie.Need-output-length-requires Inv-loop μ-loop
+output-length-requires c κs = search needs
 
 loop-holds : tie.Need-loop-holds Inv-loop μ-loop
 unfolding fills
-loop-holds c = (omega arith, refl, refl)
+loop-holds c =
+    let s = c .before .before in
+    (search needs, ap (λ (n : ℕ). fills 0 n (numbers s) (now (s .args .out))) (sym (zero-mul (s .args .size .0))), refl)
 
-cast-chosen-byte : tie.Need-cast-chosen-byte Inv-loop μ-loop
-cast-chosen-byte c = let s = c .before .before .before in omega (arith, output-le (s .pre .0), s .pre .1)
+cast-lane-at : tie.Need-cast-lane-at Inv-loop μ-loop
+cast-lane-at c = omega (arith, few c)
 
-chosen-byte-requires : tie.Need-chosen-byte-requires Inv-loop μ-loop
-chosen-byte-requires c κs = let s = c .before .before .before in (s .pre .0, omega (arith, s .pre .1))
+lane-at-requires : tie.Need-lane-at-requires Inv-loop μ-loop
+lane-at-requires c κs = (S c .pre .0 .thread-id, below c)
 
-exponent-of-requires : tie.Need-exponent-of-requires Inv-loop μ-loop
-exponent-of-requires c κs = search needs
+cast-lane : tie.Need-cast-lane Inv-loop μ-loop
+cast-lane c = search needs
 
-mul-t9 : tie.Need-mul-t9 Inv-loop μ-loop
-mul-t9 c = let s = c .before .before .before .before .before in omega (arith, output-le (s .pre .0), s .pre .1)
+cast-at : tie.Need-cast-at Inv-loop μ-loop
+cast-at c = search needs
 
-slice-set-from-out : tie.Need-slice-set-from-out Inv-loop μ-loop
-slice-set-from-out c = search needs
+mul-at : tie.Need-mul-at Inv-loop μ-loop
+mul-at c = omega (arith, small (c .before .before .before))
 
-add-x : tie.Need-add-x Inv-loop μ-loop
-add-x c = search needs
+mul-put-lane : tie.Need-mul-put-lane Inv-loop μ-loop
+mul-put-lane c = search needs
+
+shared-slice-read-put-lane : tie.Need-shared-slice-read-put-lane Inv-loop μ-loop
+shared-slice-read-put-lane c = search needs
+
+put-lane-requires : tie.Need-put-lane-requires Inv-loop μ-loop
+put-lane-requires c κs =
+    let i = c .before .before .before .before .before in
+    (fit i, omega (arith, small i), omega (arith, block i, S i .pre .1))
+
+add-k : tie.Need-add-k Inv-loop μ-loop
+add-k c = search needs
 
 loop-less : tie.Need-loop-less Inv-loop μ-loop
-loop-less c = omega arith
+loop-less c = search needs
 
 loop-again : tie.Need-loop-again Inv-loop μ-loop
 loop-again c =
-    let s = c .before .before .before .before .before in
-    let at = c .before .before .before .loop in
-    let f = number (s .args .size) (s .args .side) (s .args .byte-id) (s .args .thread-id) (now (s .args .metadata)) in
-    let e : set (at .out) (at .x) _ ≡ fills 0 (at .x + 1) f (now (s .args .out)) =
-    ap₂ (λ (ys : List ℤ) (z : ℤ). set ys (at .x) z) (at .inv .1) (toZ-ofZ w32 (c .exponent-of .result) (record { sfits = c .exponent-of .ok }) ∙ c .exponent-of .ensures ∙ ap exponent (c .before .chosen-byte .ensures))
-    ∙ fills-front (at .x) f (now (s .args .out)) in
-    (omega arith, e, ap length e ∙ length-fills 0 (at .x + 1) f (now (s .args .out)))
+    let l = c .before .before .before .before .before .before in
+    let s = S (l .before) in
+    let x = s .args in
+    let k = K (l .before) in
+    let out = now (x .out) in
+    let e =
+    lane-more (x .size .0) (x .side .0) (x .byte-id .0) (x .thread-id .0) (now (x .metadata)) out k
+    (l .lane-at .ensures .0) (l .before .before .loop .inv .1) (c .before .put-lane .ensures) in
+    (omega arith, e, ap length e ∙ length-fills 0 ((k + 1) * x .size .0) (numbers s) out)
 
 same-length : tie.Need-same-length Inv-loop μ-loop
-same-length c = c .before .loop .inv .2
+same-length c = search needs
 
 returns : tie.Need-returns Inv-loop μ-loop
 returns c =
-    let s = c .before .before .before in
-    let at = c .before .loop in
-    let f = number (s .args .size) (s .args .side) (s .args .byte-id) (s .args .thread-id) (now (s .args .metadata)) in
-    at .inv .1
-    ∙ ap (λ (n : ℕ). fills 0 n f (now (s .args .out))) (omega arith)
-    ∙ fills-all (outputLength (s .args .size .0) (s .args .side .0)) f (now (s .args .out)) (exponent 0) (s .pre .1)
-    ∙ sym (scaled-tab _ _ _ _ _ (s .pre .0 .thread-id))
+    let s = c .before .before .before .before in
+    let n = s .args .size .0 in
+    let side = s .args .side .0 in
+    let out = now (s .args .out) in
+    let l = c .before .loop in
+    let last : l .k ≡ outputLength 1 side = omega (arith, c .before .before .output-length .ensures) in
+    l .inv .1
+    ∙ ap (λ (k : ℕ). fills 0 (k * n) (numbers s) out) last
+    ∙ ap (λ (k : ℕ). fills 0 k (numbers s) out) (sym (by-one n side))
+    ∙ fills-all (outputLength n side) (numbers s) out (exponent 0) (s .pre .1)
+    ∙ sym (scaled-tab _ _ _ _ _ (s .pre .0 .thread-id) (bytes-fit n (s .args .byte-id .0) (s .pre .0 .byte-id) .0))
 
 pub fill-spec : {M : Type 1} → statement M
 fill-spec =
@@ -85,13 +139,17 @@ fill-spec =
     (tie.spec
     Inv-loop
     μ-loop
+    output-length-requires
     loop-holds
-    cast-chosen-byte
-    chosen-byte-requires
-    exponent-of-requires
-    mul-t9
-    slice-set-from-out
-    add-x
+    cast-lane-at
+    lane-at-requires
+    cast-lane
+    cast-at
+    mul-at
+    mul-put-lane
+    shared-slice-read-put-lane
+    put-lane-requires
+    add-k
     loop-less
     loop-again
     same-length

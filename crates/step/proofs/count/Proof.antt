@@ -1,7 +1,6 @@
 -- The one-bit kind's lengths, and the words counted by its numbers. Assumes nothing.
 use borrow.Author.Needs.{needs}
-use mathlib.Core.Path.{refl, _∙_}
-use native.Mathlib.Omega.{arith}
+use mathlib.Core.Path.{_∙_}
 use Rattle.step.proofs.Counted.{counted, needs as lengths}
 use Rattle.step.proofs.count.Statement.{statement}
 use Rattle.step.proofs.count.Tie as tie
@@ -9,10 +8,8 @@ use Rattle.step.proofs.count.Tie as tie
 cells-requires : tie.Need-cells-requires
 cells-requires c κs =
     let s = c .before .before .before .before .before in
-    let n = lengths (s .args .kind .0) (s .pre .0 .0) in (
-      (s .pre .0 .1, omega arith, omega arith, omega arith, refl, refl),
-      (s .pre .1 .of-a ∙ n .0, s .pre .1 .of-b ∙ n .1, s .pre .1 .of-c ∙ n .2, s .pre .1 .of-d ∙ n .2),
-    )
+    let n = lengths (s .args .kind .0) (s .pre .0 .0) in
+    (s .pre .0 .1, s .pre .1 .of-a ∙ n .0, s .pre .1 .of-b ∙ n .1, s .pre .1 .of-c ∙ n .2, s .pre .1 .of-d ∙ n .2)
 
 same-length : tie.Need-same-length
 same-length c = search needs

@@ -1,129 +1,101 @@
 -- The digits of A and of B, and the words of D from them. Assumes nothing.
 use borrow.Author.Needs.{needs}
 use mathlib.Core.Path.{_≡_, refl, sym, ap, _∙_}
-use mathlib.Core.Bool.{Bool}
+use mathlib.Core.Bool.{Bool, true, false}
+use mathlib.Core.Logic.{_⊎_, inl, inr}
 use Prim.Native.Nat.{ℕ, _-_, _*_, _^_, _<_, _≤_}
 use native.Mathlib.Omega.{arith}
-use Rattle.kinds.specs.declared.Layout.{Layout}
+use Rattle.kinds.specs.Rule.{Laid, majors, minors}
+use Rattle.kinds.specs.declared.Layouts.{Layouts}
 use Rattle.sums.specs.Sums.{offsetOf}
-use Rattle.step.proofs.Multiplied.{multiplied, sides, numbers, halves-C, words-C}
+use Rattle.step.proofs.Multiplied.{multiplied, numbers, summable}
 use Rattle.step.proofs.multiply.Statement.{statement}
 use Rattle.step.proofs.multiply.Tie as tie
 
--- the numbers of the two layouts, from where the second is known
-module _ (c : tie.After-of2) where
+module _ (k : tie.After-of) where
   abbrev S : tie.Start
-  S = c .before .before .before .before .before .before
+  S = k .before .before .before .before .before
 
-  abbrev f : Layout
-  f = c .before .of .result
+  abbrev l : Layouts
+  l = k .of .result
 
-  abbrev g : Layout
-  g = c .of2 .result
+  known : Laid (l .a) × Laid (l .b) × (l .a .bits ≤ 8) × (0 < l .a .bits) × (l .b .bits ≡ l .a .bits) × (majors (l .a) * minors (l .a) ≤ 1024) × (majors (l .b) * minors (l .b) ≤ 1024) × (minors (l .a) ≤ 64)
+  known = numbers _ _ _ (S .pre .0 .0) (S .pre .0 .1) l (k .of .ensures)
 
-  known : (f .bits ≤ 8) × (0 < f .bits) × (f .spans * 4 * f .side ≤ 64) × (f .spans * 4 * f .side ≡ g .spans * 4 * g .side)
-      × (f .halves * 8 * (f .spans * 4 * f .side) ≤ 1024) × (g .halves * 8 * (f .spans * 4 * f .side) ≤ 1024)
-  known = numbers _ _ _ (S .pre .0 .0) (S .pre .0 .1) _ _ (c .before .of .ensures .0) (c .of2 .ensures .0)
+-- an offset is nothing, or the weight of a sign bit
+either : (b o : ℕ) (unsigned : Bool) → o ≡ offsetOf unsigned (2 ^ (b - 1)) → (o ≡ 0) ⊎ (o ≡ 2 ^ (b - 1))
+either b o true e = inl e
+either b o false e = inr e
 
 of-requires : tie.Need-of-requires
 of-requires c κs = search needs
-
-of-requires-2 : tie.Need-of-requires-2
-of-requires-2 c κs = search needs
-
-mul-n : tie.Need-mul-n
-mul-n c = search needs
-
-mul-n-2 : tie.Need-mul-n-2
-mul-n-2 c = search needs
 
 unsigned-a-requires : tie.Need-unsigned-a-requires
 unsigned-a-requires c κs = search needs
 
 offset-requires : tie.Need-offset-requires
-offset-requires c κs = let k = known (c .before .before .before) in (k .1, k .0)
+offset-requires c κs = let n = known (c .before .before .before) in (n .3, n .2)
 
 unsigned-b-requires : tie.Need-unsigned-b-requires
 unsigned-b-requires c κs = search needs
 
 offset-requires-2 : tie.Need-offset-requires-2
-offset-requires-2 c κs = let k = known (c .before .before .before .before .before) in (k .1, k .0)
+offset-requires-2 c κs = let n = known (c .before .before .before .before .before) in (n .3, n .2)
 
-digits-by-width-requires : tie.Need-digits-by-width-requires
-digits-by-width-requires c κs =
-    let o = c .before in
-    let t = o .before .before .before .before .before .before in
-    let k = known t in
-    let s = S t in
-    ((t .before .of .ensures .1, k .0, s .pre .1 .of-a ∙ ap (λ (f : Layout). 32 * f .words) (sym (t .before .of .ensures .0)), o .before .before .offset .ensures .1, refl), (refl, k .4))
+cast-t17 : tie.Need-cast-t17
+cast-t17 c = search needs
 
-digits-by-width-requires-2 : tie.Need-digits-by-width-requires-2
-digits-by-width-requires-2 c κs =
-    let o = c .before .before .before in
-    let t = o .before .before .before .before .before .before in
-    let k = known t in
-    let s = S t in (
-      (
-        sides _ _ _ (s .pre .0 .0) (s .pre .0 .1) _ _ (t .before .of .ensures .0) (t .of2 .ensures .0),
-        k .0,
-        s .pre .1 .of-b ∙ ap (λ (f : Layout). 32 * f .words) (sym (t .of2 .ensures .0)),
-        o .offset2 .ensures .1,
-        refl,
-      ),
-      (k .3, k .5),
+cast-t18 : tie.Need-cast-t18
+cast-t18 c = search needs
+
+digits-requires : tie.Need-digits-requires
+digits-requires c κs =
+    let k = c .before .before .before .before .before .before .before in
+    let n = known k in (
+      record { laid = n .0; narrow = n .2; straight = refl; room = n .5; words = S k .pre .1 .of-a ∙ ap (λ (l : Layouts). 32 * l .a .words) (sym (k .of .ensures)); digits = refl },
+      either (l k .a .bits) _ (c .before .before .before .before .unsigned-a .result) (c .before .before .before .offset .ensures .0),
     )
 
-cast-cells : tie.Need-cast-cells
-cast-cells c = search needs
-
-cast-cells-2 : tie.Need-cast-cells-2
-cast-cells-2 c = search needs
+digits-requires-2 : tie.Need-digits-requires-2
+digits-requires-2 c κs =
+    let k = c .before .before .before .before .before .before .before .before .before in
+    let n = known k in (
+      record { laid = n .1; narrow = omega (arith, n .2, n .4); straight = refl; room = n .6; words = S k .pre .1 .of-b ∙ ap (λ (l : Layouts). 32 * l .b .words) (sym (k .of .ensures)); digits = refl },
+      rw (n .4) (either (l k .a .bits) _ (c .before .before .before .before .unsigned-b .result) (c .before .before .before .offset2 .ensures .0)),
+    )
 
 cells-requires : tie.Need-cells-requires
 cells-requires c κs =
-    let o = c .before .before .before .before .before .before .before in
-    let t = o .before .before .before .before .before .before in
-    let k = known t in
-    let s = S t in
-    let l = ap (λ (w : ℕ). 32 * w) (words-C _ _ _ (s .pre .0 .0) (s .pre .0 .1) _ _ (t .before .of .ensures .0) (t .of2 .ensures .0)) in (
-      (s .pre .0 .0 .mode-le, k .2, o .before .before .offset .ensures .1, o .offset2 .ensures .1, omega arith, omega arith, refl),
-      (s .pre .1 .of-c ∙ l, s .pre .1 .of-d ∙ l),
-    )
+    let k = c .before .before .before .before .before .before .before .before .before .before .before .before .before in
+    let s = S k in
+    summable _ _ _ (s .pre .0 .0) (s .pre .0 .1) (l k) (k .of .ensures) _ _ _ (c .before .before .before .before .before .before .before .before .before .offset .ensures .1) (c .before .before .before .before .before .before .before .offset2 .ensures .1) (s .pre .1 .of-c) (s .pre .1 .of-d)
 
 same-length : tie.Need-same-length
 same-length c = search needs
 
 returns : tie.Need-returns
 returns c =
-    let w = c .before .before in
-    let o = w .before .before .before .before .before .before .before .before in
-    let t = o .before .before .before .before .before .before in
-    let s = S t in
-    w .cells .ensures
-    ∙ multiplied _ _ _ (s .pre .0 .0) (s .pre .0 .1) _ _ (t .before .of .ensures .0) (t .of2 .ensures .0) 4 2
-    (words-C _ _ _ (s .pre .0 .0) (s .pre .0 .1) _ _ (t .before .of .ensures .0) (t .of2 .ensures .0))
-    (halves-C _ _ _ (s .pre .0 .0) (s .pre .0 .1) _ _ (t .before .of .ensures .0) (t .of2 .ensures .0)) _ _ _ _ _
-    (λ x. t .before .before .before .shared-slice-known3 .given x .fits) refl refl _ _ _ _ _ refl
-    (o .before .before .offset .ensures .0 ∙ ap (λ (u : Bool). offsetOf u (2 ^ (f t .bits - 1))) (o .before .before .before .unsigned-a .ensures))
-    (o .offset2 .ensures .0 ∙ ap (λ (u : Bool). offsetOf u (2 ^ (f t .bits - 1))) (o .before .unsigned-b .ensures))
-    (w .before .before .before .before .before .before .digits-by-width .ensures) (w .before .before .before .before .digits-by-width2 .ensures)
+    let k = c .before .before .before .before .before .before .before .before .before .before .before .before .before .before .before .before in
+    let s = S k in
+    c .before .before .cells .ensures
+    ∙ multiplied _ _ _ (s .pre .0 .0) (s .pre .0 .1) (l k) (k .of .ensures) _ _ _ _ _ _ (λ x. c .before .before .before .before .before .before .before .before .before .before .before .before .before .before .before .before .before .before .shared-slice-known3 .given x .fits)
+    (c .before .before .before .before .before .before .before .before .before .before .before .before .offset .ensures .0 ∙ ap (λ (u : Bool). offsetOf u (2 ^ (l k .a .bits - 1))) (c .before .before .before .before .before .before .before .before .before .before .before .before .before .unsigned-a .ensures))
+    (c .before .before .before .before .before .before .before .before .before .before .offset2 .ensures .0 ∙ ap (λ (u : Bool). offsetOf u (2 ^ (l k .a .bits - 1))) (c .before .before .before .before .before .before .before .before .before .before .before .unsigned-b .ensures))
+    (c .before .before .before .before .before .before .before .before .digits .ensures) (c .before .before .before .before .before .before .digits2 .ensures)
 
 pub multiply-spec : {M : Type 1} → statement M
 multiply-spec =
     tie.close
     (tie.spec
     of-requires
-    of-requires-2
-    mul-n
-    mul-n-2
     unsigned-a-requires
     offset-requires
     unsigned-b-requires
     offset-requires-2
-    digits-by-width-requires
-    digits-by-width-requires-2
-    cast-cells
-    cast-cells-2
+    cast-t17
+    cast-t18
+    digits-requires
+    digits-requires-2
     cells-requires
     same-length
     returns)

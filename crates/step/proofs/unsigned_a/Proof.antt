@@ -4,10 +4,10 @@ use Rattle.step.proofs.unsigned_a.Statement.{statement}
 use Rattle.step.proofs.unsigned_a.Tie as tie
 
 returns : tie.Need-returns
-returns c = simp (eq-eqb (c .before .args .signs) 1 (c .if1 .taken))
+returns c = simp (eq-eqb (c .before .args .signs .0) 1 (c .if1 .taken))
 
 returns-2 : tie.Need-returns-2
-returns-2 c = simp (ne-eqb (c .before .args .signs) 1 (c .if1 .left))
+returns-2 c = simp (ne-eqb (c .before .args .signs .0) 1 (c .if1 .left))
 
 pub unsigned-a-spec : {M : Type 1} → statement M
 unsigned-a-spec = tie.close (tie.spec returns returns-2)

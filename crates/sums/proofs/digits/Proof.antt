@@ -1,66 +1,87 @@
--- The loop stores the digits of a major number after the other: one block more each turn. Assumes nothing.
-use borrow.Author.Needs.{needs}
-use mathlib.Core.Path.{_≡_, refl, sym, ap, ap₂, _∙_}
+-- Each turn brings one stretch more of every quad; the masked matrix then stands whole, and its numbers are the digits. Assumes nothing.
+use mathlib.Core.Path.{_≡_, subst}
 use mathlib.Core.List.{List}
-use Prim.Native.Nat.{ℕ, _+_, _*_, _-_, _≤_}
-use native.Mathlib.Nat.{zero-mul, zero-add}
+use Prim.Native.Nat.{ℕ, _-_, _<_, _≤_}
 use native.Mathlib.Omega.{arith}
 use denote.Ref.{now}
-use lib.ListN.{length}
-use Rattle.laws.specs.Lists.{fills, blocks}
-use Rattle.laws.proofs.Lists.{fills-block, length-fills, block-le}
-use Rattle.sums.specs.Sums.{digitAt}
+use Rattle.laws.specs.Toward.{Brings, Below}
+use Rattle.laws.proofs.Toward.{brings-none, brings-more}
+use Rattle.kinds.specs.declared.Layout.{Layout}
+use Rattle.warp.specs.Stretches.{stretchesOf, OfQuad}
+use Rattle.warp.proofs.Places.{stretch-fills}
+use Rattle.warp.proofs.Stretches.{stretches-few}
+use Rattle.sums.specs.Sums.{straight, masked}
+use Rattle.sums.proofs.Masked.{offset-lt, still-digitised, digits-all}
 use Rattle.sums.proofs.digits.Statement.{statement}
 use Rattle.sums.proofs.digits.Tie as tie
 
--- one block more, from the front
-block-more : (k n : ℕ) (g : ℕ → ℕ → ℕ) (xs : List ℕ) {ys zs : List ℕ} → ys ≡ fills 0 (k * n) (blocks n g) xs → zs ≡ fills (k * n) n (g k) ys → zs ≡ fills 0 ((k + 1) * n) (blocks n g) xs
-block-more k n g xs e f = f ∙ ap₂ (λ (b : ℕ) (ys : List ℕ). fills b n (g k) ys) (sym (zero-add (k * n))) e ∙ fills-block 0 k n g xs
+abbrev Quads : Layout → (stretch : ℕ) → ℕ → Type 0
+Quads f r = Below 8 (OfQuad f (f .side) r)
 
 abbrev Inv-loop : tie.InvT-loop
-Inv-loop words out₀ bits each side halves spans offset n x₀ x-end out x =
-    (x ≤ halves * 8) × (out ≡ fills 0 (x * n) (blocks n (digitAt bits each side halves offset words)) out₀) × (length out ≡ length out₀)
+Inv-loop words out₀ offset f mask stretch₀ stretch-end out stretch = (stretch ≤ stretchesOf f) × Brings (masked f mask words) (Below stretch (Quads f)) out₀ out
 
 abbrev μ-loop : tie.MeasureT-loop
-μ-loop words out₀ bits each side halves spans offset n x₀ x-end out x = halves * 8 - x
+μ-loop words out₀ offset f mask stretch₀ stretch-end out stretch = stretchesOf f - stretch
 
-abbrev rule : tie.Start Inv-loop μ-loop → ℕ → ℕ → ℕ
-rule s = digitAt (s .args .bits) (s .args .each) (s .args .side) (s .args .halves) (s .args .offset) (now (s .args .words))
+module _ (c : tie.After-stretches-in Inv-loop μ-loop) where
+  abbrev S : tie.Start Inv-loop μ-loop
+  S = c .before .before .before
 
-mul-x-end : tie.Need-mul-x-end Inv-loop μ-loop
-mul-x-end c = omega (arith, c .before .pre .0 .0 .halves-le)
+  abbrev f : Layout
+  f = straight (S .args .side)
+
+  abbrev mask : ℕ
+  mask = c .before .mask-of .result
+
+  abbrev u : List ℕ
+  u = masked f mask (now (S .args .words))
+
+mask-of-requires : tie.Need-mask-of-requires Inv-loop μ-loop
+mask-of-requires c κs =
+    let s = c .before in
+    let p = s .pre .0 in
+    let g = straight (s .args .side) in
+    let l : g .bits < 32 = omega (arith, p .narrow) in
+    (omega (arith, stretch-fills g (p .laid) l), p .laid .side-le, offset-lt (g .bits) (s .args .offset) (p .laid .width .pos) (s .pre .1))
+
+stretches-in-requires : tie.Need-stretches-in-requires Inv-loop μ-loop
+stretches-in-requires c κs = c .before .before .pre .0 .laid
 
 loop-holds : tie.Need-loop-holds Inv-loop μ-loop
-unfolding fills
-loop-holds c = (search needs, rw zero-mul refl, refl)
+loop-holds c = (omega arith, brings-none (u c) (Quads (f c)) (now (S c .args .out)))
 
-digits-row-requires : tie.Need-digits-row-requires Inv-loop μ-loop
-digits-row-requires c κs =
-    let s = c .before .before .before .before in
-    let l = c .before .before .loop in
-    let p = s .pre .0 in
-    let h = c .before .loop-test .taken in
-    ((p .0, p .1, p .2, p .3, l .inv .2 ∙ p .4), (h, s .pre .1 .0, omega (arith, block-le (l .x) (s .args .halves * 8) (s .args .n) h, s .pre .1 .1)))
+digits-quads-requires : tie.Need-digits-quads-requires Inv-loop μ-loop
+digits-quads-requires c κs =
+    let i = c .before in
+    let b = i .before .before in
+    let l = i .before .loop in
+    (still-digitised (f b) (now (S b .args .words)) (now (S b .args .out)) (l .out) (S b .pre .0) (l .inv .1 .same), omega (arith, i .loop-test .taken, b .stretches-in .ensures))
 
-add-x : tie.Need-add-x Inv-loop μ-loop
-add-x c = omega (arith, c .before .before .loop-test .taken)
+add-stretch : tie.Need-add-stretch Inv-loop μ-loop
+add-stretch c =
+    let i = c .before .before in
+    let b = i .before .before in
+    omega (arith, i .loop-test .taken, b .stretches-in .ensures, stretches-few (f b) (S b .pre .0 .laid))
 
 loop-less : tie.Need-loop-less Inv-loop μ-loop
-loop-less c = omega (arith, c .before .before .loop-test .taken)
+loop-less c = let i = c .before .before in omega (arith, i .loop-test .taken, i .before .before .stretches-in .ensures)
 
 loop-again : tie.Need-loop-again Inv-loop μ-loop
 loop-again c =
-    let s = c .before .before .before .before .before in
-    let n = s .args .n in
-    let l = c .before .before .before .loop in
-    let e = block-more (l .x) n (rule s) (now (s .args .out)) (l .inv .1) (c .digits-row .ensures) in
-    (omega (arith, c .before .before .loop-test .taken), e, ap length e ∙ length-fills 0 ((l .x + 1) * n) (blocks n (rule s)) (now (s .args .out)))
+    let i = c .before .before in
+    let b = i .before .before in
+    let l = i .before .loop in
+    (omega (arith, i .loop-test .taken, b .stretches-in .ensures), brings-more (u b) (Quads (f b)) (l .stretch) (now (S b .args .out)) (l .out) _ (l .inv .1) (c .digits-quads .ensures))
 
 returns : tie.Need-returns Inv-loop μ-loop
 returns c =
-    let s = c .before .before .before in
-    let e : c .before .loop .x ≡ s .args .halves * 8 = omega arith in
-    c .before .loop .inv .1 ∙ ap (λ (m : ℕ). fills 0 (m * s .args .n) (blocks (s .args .n) (rule s)) (now (s .args .out))) e
+    let b = c .before .before in
+    let a = S b .args in
+    let l = c .before .loop in
+    let e : l .stretch ≡ stretchesOf (f b) = omega (arith, b .stretches-in .ensures) in
+    digits-all (f b) (mask b) (a .offset) (now (a .words)) (now (a .out)) (l .out) (S b .pre .0) (b .before .mask-of .ensures) (S b .pre .1)
+    (subst (λ (n : ℕ). Brings (u b) (Below n (Quads (f b))) (now (a .out)) (l .out)) e (l .inv .1))
 
 pub digits-spec : {M : Type 1} → statement M
 digits-spec =
@@ -68,10 +89,11 @@ digits-spec =
     (tie.spec
     Inv-loop
     μ-loop
-    mul-x-end
+    mask-of-requires
+    stretches-in-requires
     loop-holds
-    digits-row-requires
-    add-x
+    digits-quads-requires
+    add-stretch
     loop-less
     loop-again
     returns)

@@ -2,7 +2,7 @@
 use mathlib.Core.Path.{refl}
 use Prim.Native.Nat.{_*_, _≤_}
 use native.Mathlib.Omega.{arith}
-use Rattle.sums.proofs.Offsets.{product-le}
+use Rattle.sums.proofs.OffsetDots.{product-le}
 use Rattle.sums.proofs.product.Statement.{statement}
 use Rattle.sums.proofs.product.Tie as tie
 

@@ -1,11 +1,14 @@
 -- Each return rewrites the chain with the tests that led there; the matrix that is packed holds the record's bytes. Assumes nothing.
 use borrow.Author.Needs.{needs}
 use borrow.Author.Tests.{eq-eqb, ne-eqb}
-use mathlib.Core.Path.{refl, sym, ap, subst, _∙_}
+use mathlib.Core.Path.{_≡_, refl, sym, ap, ap₂, _∙_}
+use mathlib.Core.List.{List}
+use Prim.Native.Nat.{ℕ, _*_}
+use native.Mathlib.Omega.{arith}
 use lib.ListN.{length}
-use Rattle.template.specs.Templates.{templateWords}
-use Rattle.warp.specs.Buffers.{Fitting}
-use Rattle.template.proofs.Records.{template-laid}
+use Rattle.kinds.specs.Rule.{rowsOf, columnsOf}
+use Rattle.kinds.specs.declared.Layout.{Layout}
+use Rattle.warp.specs.Buffers.{Fitting, packed}
 use Rattle.template.proofs.read.Statement.{statement}
 use Rattle.template.proofs.read.Tie as tie
 
@@ -14,6 +17,13 @@ returns c = (simp (ne-eqb _ _ (c .if1 .taken)), refl)
 
 returns-2 : tie.Need-returns-2
 returns-2 c = (simp (eq-eqb _ _ (c .before .if1 .left), ne-eqb _ _ (c .if2 .taken)), refl)
+
+-- what fits the template's layout
+fitting : (f g : Layout) → f ≡ g → (m bytes : List ℕ) → m ≡ bytes → Fitting (g .bits) bytes → Fitting (f .bits) m
+fitting f g e m bytes d h = rw (e, d) h
+
+of-requires : tie.Need-of-requires
+of-requires c κs = (omega arith, omega arith, omega arith)
 
 slice-aggregate-widen : tie.Need-slice-aggregate-widen
 slice-aggregate-widen c = search needs
@@ -27,10 +37,17 @@ slice-aggregate-fill-words c = search needs
 fill-words-requires : tie.Need-fill-words-requires
 fill-words-requires c κs =
     let w = c .before .before .before in
-    let e2 = w .before .before in
+    let o = w .before .before in
+    let e2 = o .before in
     let k = e2 .before .before .before in
     let e = w .widen .ensures in
-    ((template-laid, subst (Fitting 8) (sym e) (λ x l. k .shared-slice-known .given x .fits)), (record { wide = refl; whole = ap length e ∙ e2 .before .if1 .left }, e2 .if2 .left))
+    let is = sym (o .of .ensures .0) in
+    record {
+      laid = o .of .ensures .1;
+      fitting = fitting _ _ (o .of .ensures .0) _ _ e (λ x l. k .shared-slice-known .given x .fits);
+      entries = ap length e ∙ e2 .before .if1 .left ∙ ap (λ (f : Layout). rowsOf f * columnsOf f) is;
+      words = e2 .if2 .left ∙ ap (λ (f : Layout). 32 * f .words) is;
+    }
 
 same-length : tie.Need-same-length
 same-length c = search needs
@@ -38,8 +55,9 @@ same-length c = search needs
 returns-3 : tie.Need-returns-3
 returns-3 c =
     let w = c .before .before .before .before .before .before in
-    let e2 = w .before .before in
-    (simp (eq-eqb _ _ (e2 .before .if1 .left), eq-eqb _ _ (e2 .if2 .left)), c .before .before .fill-words .ensures ∙ ap templateWords (w .widen .ensures))
+    let o = w .before .before in
+    let e2 = o .before in
+    (simp (eq-eqb _ _ (e2 .before .if1 .left), eq-eqb _ _ (e2 .if2 .left)), c .before .before .fill-words .ensures ∙ ap₂ packed (o .of .ensures .0) (w .widen .ensures))
 
 pub read-spec : {M : Type 1} → statement M
 read-spec =
@@ -47,6 +65,7 @@ read-spec =
     (tie.spec
     returns
     returns-2
+    of-requires
     slice-aggregate-widen
     widen-requires
     slice-aggregate-fill-words

@@ -2,10 +2,14 @@
 use borrow.Author.Needs.{needs}
 use borrow.Author.Tests.{eq-eqb, ne-eqb}
 use mathlib.Core.Path.{refl, sym, ap, subst, _∙_}
+use Prim.Native.Nat.{_*_}
+use native.Mathlib.Omega.{arith}
 use denote.Ref.{now}
 use lib.ListN.{length}
 use Rattle.kinds.proofs.Table.{layoutAt}
-use Rattle.warp.specs.Buffers.{Fitting}
+use Rattle.kinds.specs.Rule.{rowsOf, columnsOf}
+use Rattle.kinds.specs.declared.Layout.{Layout}
+use Rattle.warp.specs.Buffers.{Fitting, unpacked}
 use Rattle.template.specs.Templates.{templateKind, templateRole}
 use Rattle.template.proofs.Records.{template-laid}
 use Rattle.warp.proofs.Round.{unpacked-fits, unpacked-length}
@@ -18,11 +22,17 @@ returns c = (simp (ne-eqb _ _ (c .if1 .taken)), refl)
 returns-2 : tie.Need-returns-2
 returns-2 c = (simp (eq-eqb _ _ (c .before .if1 .left), ne-eqb _ _ (c .if2 .taken)), refl)
 
+of-requires : tie.Need-of-requires
+of-requires c κs = (omega arith, omega arith, omega arith)
+
 slice-aggregate-fill : tie.Need-slice-aggregate-fill
 slice-aggregate-fill c = search needs
 
 fill-requires : tie.Need-fill-requires
-fill-requires c κs = search needs
+fill-requires c κs =
+    let o = c .before in
+    let is = sym (o .of .ensures .0) in
+    record { laid = o .of .ensures .1; words = o .before .before .if1 .left ∙ ap (λ (f : Layout). 32 * f .words) is; entries = ap (λ (f : Layout). rowsOf f * columnsOf f) is }
 
 slice-aggregate-narrow : tie.Need-slice-aggregate-narrow
 slice-aggregate-narrow c = search needs
@@ -30,10 +40,11 @@ slice-aggregate-narrow c = search needs
 narrow-requires : tie.Need-narrow-requires
 narrow-requires c κs =
     let w = c .before .before .before in
-    let e2 = w .before .before in
+    let o = w .before .before in
+    let e2 = o .before in
     let ws = now (e2 .before .before .before .before .args .words) in
     let f = layoutAt templateKind templateRole in
-    let e = w .fill .ensures in
+    let e = w .fill .ensures ∙ ap (λ (f : Layout). unpacked f ws) (o .of .ensures .0) in
     (subst (Fitting 8) (sym e) (unpacked-fits f template-laid ws), e2 .if2 .left ∙ sym (ap length e ∙ unpacked-length f template-laid ws))
 
 same-length : tie.Need-same-length
@@ -42,8 +53,12 @@ same-length c = search needs
 returns-3 : tie.Need-returns-3
 returns-3 c =
     let w = c .before .before .before .before .before .before in
-    let e2 = w .before .before in
-    (simp (eq-eqb _ _ (e2 .before .if1 .left), eq-eqb _ _ (e2 .if2 .left)), c .before .before .narrow .ensures ∙ w .fill .ensures)
+    let o = w .before .before in
+    let e2 = o .before in
+    let ws = now (e2 .before .before .before .before .args .words) in (
+      simp (eq-eqb _ _ (e2 .before .if1 .left), eq-eqb _ _ (e2 .if2 .left)),
+      c .before .before .narrow .ensures ∙ w .fill .ensures ∙ ap (λ (f : Layout). unpacked f ws) (o .of .ensures .0),
+    )
 
 pub write-spec : {M : Type 1} → statement M
 write-spec =
@@ -51,6 +66,7 @@ write-spec =
     (tie.spec
     returns
     returns-2
+    of-requires
     slice-aggregate-fill
     fill-requires
     slice-aggregate-narrow

@@ -1,63 +1,86 @@
--- Of 64 bits an element is two words; of fewer it is a field of one word. Assumes nothing.
+-- Of 64 bits an element is two words; of 32 it is one. Assumes nothing.
 use borrow.Author.Needs.{needs}
-use mathlib.Core.Path.{sym, ap, ap₂, _∙_}
-use Prim.Native.Nat.{ℕ, _+_, _*_, _/_, _%_, _^_, _<_}
-use native.Mathlib.Nat.{mul-le-mul, le-of-lt}
+use mathlib.Core.Path.{_≡_, sym, ap, ap₂, _∙_}
+use Prim.Native.Nat.{ℕ, _+_, _*_, _^_, _<_, _≤_}
 use native.Mathlib.Omega.{arith}
 use denote.Ref.{now}
-use lib.Arith.{digits-lt}
 use lib.ListN.{length, getD}
-use Rattle.laws.specs.Fields.{field}
+use Rattle.kinds.specs.declared.Layout.{Layout}
 use Rattle.warp.specs.Buffers.{elementAt}
-use Rattle.warp.proofs.Elements.{pos, bits-le, shift-lt, word-in, two-in, element-narrow, element-two}
+use Rattle.warp.specs.Stretches.{holdingOf}
+use Rattle.warp.proofs.Elements.{element-two, element-whole}
+use Rattle.warp.proofs.Places.{wide-is}
+use Rattle.warp.proofs.Stretches.{one-word, two-words, stretch-word, lane-small, lane-word}
 use Rattle.unpack.proofs.element.Statement.{statement}
 use Rattle.unpack.proofs.element.Tie as tie
 
--- word k of the lane is in the buffer
-in-buffer : (s : tie.Start) (k : ℕ) → k < s .args .each → (s .args .lane * s .args .each + k < 256) × (s .args .lane * s .args .each + k < length (now (s .args .words)))
-in-buffer s k h = omega (arith, digits-lt (s .pre .2) h, s .pre .1, s .pre .4)
+module _ (k : tie.After-shared-slice-known) where
+  abbrev S : tie.Start
+  S = k .before
 
-two : (c : tie.Then1) → 2 * c .before .before .args .i + 1 < c .before .before .args .each
-two c = let s = c .before .before in two-in (s .args .bits) (s .args .i) (s .args .each) (c .if1 .taken) (s .pre .3)
+  abbrev f : Layout
+  f = S .args .f
 
-two-at : (c : tie.Then1) → (c .before .before .args .lane * c .before .before .args .each + (2 * c .before .before .args .i + 1) < 256)
-    × (c .before .before .args .lane * c .before .before .args .each + (2 * c .before .before .args .i + 1) < length (now (c .before .before .args .words)))
-two-at c = in-buffer (c .before .before) (2 * c .before .before .args .i + 1) (two c)
+  abbrev r : ℕ
+  r = S .args .stretch .0
 
-one : (c : tie.Else1) → c .before .before .args .i / (32 / c .before .before .args .bits) < c .before .before .args .each
-one c = let s = c .before .before in word-in (s .args .bits) (s .pre .0) (c .if1 .left) (s .args .i) (s .args .each) (s .pre .3)
+  abbrev at : ℕ
+  at = S .args .lane .0 * f .words
 
-one-at : (c : tie.Else1) → (c .before .before .args .lane * c .before .before .args .each + c .before .before .args .i / (32 / c .before .before .args .bits) < 256)
-    × (c .before .before .args .lane * c .before .before .args .each + c .before .before .args .i / (32 / c .before .before .args .bits) < length (now (c .before .before .args .words)))
-one-at c = in-buffer (c .before .before) (c .before .before .args .i / (32 / c .before .before .args .bits)) (one c)
+  -- each word is below 2 ^ 32
+  fit : (n : ℕ) → n < f .words → getD (now (S .args .words)) (at + n) 0 < 2 ^ 32
+  fit n h = k .shared-slice-known .given (at + n) .fits
 
--- each word is below 2 ^ 32
-fit : (c : tie.After-shared-slice-known) (k : ℕ) → k < c .before .args .each → getD (now (c .before .args .words)) (c .before .args .lane * c .before .args .each + k) 0 < 2 ^ 32
-fit c k h = c .shared-slice-known .given (c .before .args .lane * c .before .args .each + k) .fits
+  -- word j of the n that hold the element
+  in-buffer : (n j : ℕ) → holdingOf f ≡ n → j < n → (at ≤ 248) × (at + (r * n + j) < length (now (S .args .words)))
+  in-buffer n j e h = omega (arith, lane-word f (S .pre .0) n (S .args .lane .0) r j e (S .pre .4) (S .pre .3) h, S .pre .1)
+
+  module _ (e : f .bits ≡ 64) where
+    pair : (at ≤ 248) × (r * 2 + 1 < f .words) × (at + (r * 2 + 1) < length (now (S .args .words)))
+    pair =
+        let w = stretch-word f (S .pre .0) 2 r 1 (two-words f e) (S .pre .3) (omega arith) in
+        (in-buffer 2 1 (two-words f e) (omega arith) .0, w, in-buffer 2 1 (two-words f e) (omega arith) .1)
+
+    two : getD (now (S .args .words)) (at + (r * 2 + 1)) 0 * 4294967296 + getD (now (S .args .words)) (at + r * 2) 0 ≡ elementAt (f .bits) (f .words) (now (S .args .words)) (S .args .lane .0) r
+    two =
+        let h : 2 * r + 1 < f .words = omega (arith, pair .1) in
+        ap₂ (λ (i j : ℕ). getD (now (S .args .words)) i 0 * 4294967296 + getD (now (S .args .words)) j 0) (omega arith) (omega arith)
+        ∙ sym (element-two (f .words) (now (S .args .words)) (S .args .lane .0) fit r h)
+        ∙ ap (λ (b : ℕ). elementAt b (f .words) (now (S .args .words)) (S .args .lane .0) r) (sym e)
+
+  module _ (ne : f .bits ≡ 64 → ⊥) where
+    single : (at ≤ 248) × (r < f .words) × (at + r < length (now (S .args .words)))
+    single =
+        let w = stretch-word f (S .pre .0) 1 r 0 (one-word f ne) (S .pre .3) (omega arith) in
+        let b = in-buffer 1 0 (one-word f ne) (omega arith) in
+        (b .0, omega arith, omega arith)
+
+cast-at : tie.Need-cast-at
+cast-at c = search needs
 
 mul-at : tie.Need-mul-at
-mul-at c = omega (arith, mul-le-mul (le-of-lt (c .before .pre .2)) (c .before .pre .1))
+mul-at c = let s = c .before .before .before in omega (arith, lane-small (s .args .f) (s .pre .0) (s .args .lane .0) (s .pre .4))
 
 mul-word : tie.Need-mul-word
-mul-word c = omega (arith, two-at c)
+mul-word c = omega (arith, pair (c .before .before .before .before) (c .if1 .taken))
 
 add-word : tie.Need-add-word
-add-word c = omega (arith, two-at c)
+add-word c = omega (arith, pair (c .before .before .before .before) (c .if1 .taken))
 
 word-requires : tie.Need-word-requires
-word-requires c κs = omega (arith, two-at c)
+word-requires c κs = omega (arith, pair (c .before .before .before .before) (c .if1 .taken))
 
 mul-word-2 : tie.Need-mul-word-2
-mul-word-2 c = omega (arith, two-at (c .before))
+mul-word-2 c = omega (arith, pair (c .before .before .before .before .before) (c .before .if1 .taken))
 
 add-word-2 : tie.Need-add-word-2
-add-word-2 c = omega (arith, two-at (c .before))
+add-word-2 c = omega (arith, pair (c .before .before .before .before .before) (c .before .if1 .taken))
 
 add-word-3 : tie.Need-add-word-3
-add-word-3 c = omega (arith, two-at (c .before))
+add-word-3 c = omega (arith, pair (c .before .before .before .before .before) (c .before .if1 .taken))
 
 word-requires-2 : tie.Need-word-requires-2
-word-requires-2 c κs = omega (arith, two-at (c .before))
+word-requires-2 c κs = omega (arith, pair (c .before .before .before .before .before) (c .before .if1 .taken))
 
 mul-result : tie.Need-mul-result
 mul-result c = search needs
@@ -66,46 +89,28 @@ add-result : tie.Need-add-result
 add-result c = search needs
 
 returns : tie.Need-returns
-returns c =
-    let k = c .before .before .before in
-    let s = k .before in
-    ap₂ (λ (x y : ℕ). x * 4294967296 + y) (c .word2 .ensures .0) (c .before .word .ensures .0)
-    ∙ sym (element-two (s .args .each) (now (s .args .words)) (s .args .lane) (fit k) (s .args .i) (two (c .before .before)))
-    ∙ ap (λ (b : ℕ). elementAt b (s .args .each) (now (s .args .words)) (s .args .lane) (s .args .i)) (sym (c .before .before .if1 .taken))
-
-div-per : tie.Need-div-per
-div-per c = search needs
-
-div-word : tie.Need-div-word
-div-word c = let s = c .before .before in pos (s .args .bits) (s .pre .0) (c .if1 .left)
+returns c = ap₂ (λ (x y : ℕ). x * 4294967296 + y) (c .word2 .ensures .0) (c .before .word .ensures .0) ∙ two (c .before .before .before .before .before .before) (c .before .before .if1 .taken)
 
 add-word-4 : tie.Need-add-word-4
-add-word-4 c = omega (arith, one-at c)
+add-word-4 c = omega (arith, single (c .before .before .before .before) (c .if1 .left))
 
 word-requires-3 : tie.Need-word-requires-3
-word-requires-3 c κs = omega (arith, one-at c)
-
-rem-field-of : tie.Need-rem-field-of
-rem-field-of c = let s = c .before .before .before in pos (s .args .bits) (s .pre .0) (c .before .if1 .left)
-
-field-of-requires : tie.Need-field-of-requires
-field-of-requires c κs =
-    let s = c .before .before .before in
-    (omega (arith, bits-le (s .args .bits) (s .pre .0) (c .before .if1 .left)), omega (arith, shift-lt (s .args .bits) (s .pre .0) (c .before .if1 .left) (s .args .i)))
+word-requires-3 c κs = omega (arith, single (c .before .before .before .before) (c .if1 .left))
 
 returns-2 : tie.Need-returns-2
 returns-2 c =
-    let k = c .before .before .before in
-    let s = k .before in
-    let ne = c .before .before .if1 .left in
-    c .field-of .ensures
-    ∙ ap (field (s .args .bits) (s .args .i % (32 / s .args .bits))) (c .before .word3 .ensures .0)
-    ∙ sym (element-narrow (s .args .each) (now (s .args .words)) (s .args .lane) (fit k) (s .args .bits) (32 / s .args .bits) (s .args .i) (s .pre .0 .narrow ne) (pos (s .args .bits) (s .pre .0) ne) (one (c .before .before)))
+    let k = c .before .before .before .before .before in
+    let s = S k in
+    let ne = c .before .if1 .left in
+    c .word3 .ensures .0
+    ∙ sym (element-whole (f k .words) (now (s .args .words)) (s .args .lane .0) (fit k) (r k) (single k ne .1))
+    ∙ ap (λ (b : ℕ). elementAt b (f k .words) (now (s .args .words)) (s .args .lane .0) (r k)) (sym (wide-is (f k) (s .pre .0) (s .pre .2) ne .0))
 
 pub element-spec : {M : Type 1} → statement M
 element-spec =
     tie.close
     (tie.spec
+    cast-at
     mul-at
     mul-word
     add-word
@@ -117,10 +122,6 @@ element-spec =
     mul-result
     add-result
     returns
-    div-per
-    div-word
     add-word-4
     word-requires-3
-    rem-field-of
-    field-of-requires
     returns-2)

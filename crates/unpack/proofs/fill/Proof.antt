@@ -1,68 +1,70 @@
--- The loop stores a row after the other: one block more each turn, and at the end the whole matrix. Assumes nothing.
+-- Each turn brings one stretch more; with all of them every place is brought. Assumes nothing.
 use borrow.Author.Needs.{needs}
-use mathlib.Core.Path.{_≡_, refl, sym, ap, ap₂, _∙_}
-use mathlib.Core.List.{List}
-use Prim.Native.Nat.{ℕ, _+_, _*_, _-_, _≤_}
-use native.Mathlib.Nat.{zero-mul, zero-add}
+use mathlib.Core.Path.{_≡_, sym, subst, _∙_}
+use mathlib.Core.Logic.{inl}
+use Prim.Native.Nat.{ℕ, _-_, _≤_, _<_}
 use native.Mathlib.Omega.{arith}
 use denote.Ref.{now}
-use lib.ListN.{length}
-use Rattle.laws.specs.Lists.{tab, fills, blocks}
-use Rattle.laws.proofs.Lists.{fills-block, fills-all, length-fills, block-le}
-use Rattle.kinds.specs.Rule.{shape}
-use Rattle.warp.specs.Buffers.{entryAt, unpacked}
+use Rattle.laws.specs.Toward.{Brings, Below}
+use Rattle.laws.proofs.Toward.{brings-none, brings-more, brings-all}
+use Rattle.kinds.specs.declared.Layout.{Layout}
+use Rattle.warp.specs.Buffers.{unpacked}
+use Rattle.warp.specs.Stretches.{sizeOf, stretchesOf, OfQuad}
+use Rattle.warp.proofs.Round.{unpacked-length}
+use Rattle.warp.proofs.Stretches.{place-covered}
 use Rattle.unpack.proofs.fill.Statement.{statement}
 use Rattle.unpack.proofs.fill.Tie as tie
 
+abbrev Stretches : Layout → ℕ → ℕ → Type 0
+Stretches f r = Below 8 (OfQuad f (sizeOf f) r)
+
 abbrev Inv-loop : tie.InvT-loop
-Inv-loop words matrix₀ bits each side halves spans turned rows columns row₀ matrix row =
-    (row ≤ rows) × (matrix ≡ fills 0 (row * columns) (blocks columns (entryAt (shape bits each side halves spans turned) words)) matrix₀) × (length matrix ≡ length matrix₀)
+Inv-loop words matrix₀ f stretch₀ stretch-end matrix stretch = (stretch ≤ stretch-end) × (stretch-end ≡ stretchesOf f) × Brings (unpacked f words) (Below stretch (Stretches f)) matrix₀ matrix
 
 abbrev μ-loop : tie.MeasureT-loop
-μ-loop words matrix₀ bits each side halves spans turned rows columns row₀ matrix row = rows - row
+μ-loop words matrix₀ f stretch₀ stretch-end matrix stretch = stretch-end - stretch
+
+stretches-in-requires : tie.Need-stretches-in-requires Inv-loop μ-loop
+stretches-in-requires c κs = c .before .before .pre .laid
 
 loop-holds : tie.Need-loop-holds Inv-loop μ-loop
-unfolding fills
-loop-holds c = (search needs, rw zero-mul refl, refl)
+loop-holds c =
+    let s = c .before .before .before .args in
+    (omega arith, c .stretches-in .ensures, brings-none (unpacked (s .f) (now (s .words))) (Stretches (s .f)) (now (s .matrix)))
 
-fill-row-requires : tie.Need-fill-row-requires Inv-loop μ-loop
-fill-row-requires c κs =
-    let s = c .before .before .before .before .before in
+fill-quads-requires : tie.Need-fill-quads-requires Inv-loop μ-loop
+fill-quads-requires c κs =
+    let s = c .before .before .before .before .before .before in
     let l = c .before .before .loop in
-    (s .pre .0, (omega (arith, c .before .loop-test .taken, s .pre .1 .0), s .pre .1 .1, omega (arith, block-le (l .row) (s .args .rows) (s .args .columns) (c .before .loop-test .taken), s .pre .1 .2, l .inv .2)))
+    (record { laid = s .pre .laid; words = s .pre .words; entries = l .inv .2 .same ∙ s .pre .entries }, subst (λ (n : ℕ). l .stretch < n) (l .inv .1) (c .before .loop-test .taken))
 
-add-row : tie.Need-add-row Inv-loop μ-loop
-add-row c = omega (arith, c .before .before .before .before .loop-test .taken)
+add-stretch : tie.Need-add-stretch Inv-loop μ-loop
+add-stretch c = search needs
 
 loop-less : tie.Need-loop-less Inv-loop μ-loop
-loop-less c = omega (arith, c .before .before .before .before .loop-test .taken)
+loop-less c = search needs
 
 loop-again : tie.Need-loop-again Inv-loop μ-loop
 loop-again c =
-    let s = c .before .before .before .before .before .before .before .before .args in
-    let l = c .before .before .before .before .before .loop in
-    let w = s .columns in
-    let g : ℕ → ℕ → ℕ = entryAt (shape (s .bits) (s .each) (s .side) (s .halves) (s .spans) (s .turned)) (now (s .words)) in
-    let e =
-    c .before .before .fill-row .ensures
-    ∙ ap₂ (λ (b : ℕ) (xs : List ℕ). fills b w (g (l .row)) xs) (sym (zero-add (l .row * w))) (l .inv .1)
-    ∙ fills-block 0 (l .row) w g (now (s .matrix)) in
-    (omega (arith, c .before .before .before .before .loop-test .taken), e, ap length e ∙ length-fills 0 ((l .row + 1) * w) (blocks w g) (now (s .matrix)))
+    let i = c .before .before .before .before in
+    let s = i .before .before .before .before .before .args in
+    let l = i .before .loop in
+    (omega (arith, i .loop-test .taken), l .inv .1, brings-more (unpacked (s .f) (now (s .words))) (Stretches (s .f)) (l .stretch) (now (s .matrix)) (l .matrix) _ (l .inv .2) (c .before .before .fill-quads .ensures))
 
 same-length : tie.Need-same-length Inv-loop μ-loop
-same-length c = c .before .loop .inv .2
+same-length c = c .before .loop .inv .2 .same
 
 returns : tie.Need-returns Inv-loop μ-loop
-unfolding unpacked
 returns c =
-    let s = c .before .before .before .before in
-    let a = s .args in
-    let g : ℕ → ℕ → ℕ = entryAt (shape (a .bits) (a .each) (a .side) (a .halves) (a .spans) (a .turned)) (now (a .words)) in
-    let e : c .before .loop .row ≡ a .rows = omega arith in
-    c .before .loop .inv .1
-    ∙ ap (λ (n : ℕ). fills 0 (n * a .columns) (blocks (a .columns) g) (now (a .matrix))) e
-    ∙ fills-all (a .rows * a .columns) (blocks (a .columns) g) (now (a .matrix)) 0 (s .pre .1 .2)
-    ∙ ap₂ (λ (m n : ℕ). tab (m * n) (blocks n g)) (s .pre .1 .0) (s .pre .1 .1)
+    let s = c .before .before .before .before .before in
+    let f = s .args .f in
+    let ws = now (s .args .words) in
+    let l = c .before .loop in
+    let e : l .stretch ≡ stretchesOf f = omega (arith, l .inv .0, l .inv .1, c .loop-test) in
+    let n = unpacked-length f (s .pre .laid) ws in
+    brings-all (unpacked f ws) (Below (l .stretch) (Stretches f)) (now (s .args .matrix)) (l .matrix) (s .pre .entries ∙ sym n)
+    (λ x h. inl (subst (λ (m : ℕ). Below m (Stretches f) x) (sym e) (place-covered f (s .pre .laid) x (subst (λ (m : ℕ). x < m) n h))))
+    (l .inv .2)
 
 pub fill-spec : {M : Type 1} → statement M
 fill-spec =
@@ -70,9 +72,10 @@ fill-spec =
     (tie.spec
     Inv-loop
     μ-loop
+    stretches-in-requires
     loop-holds
-    fill-row-requires
-    add-row
+    fill-quads-requires
+    add-stretch
     loop-less
     loop-again
     same-length

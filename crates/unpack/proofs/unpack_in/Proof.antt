@@ -33,10 +33,10 @@ returns-2 : tie.Need-returns-2
 unfolding unpackBy
 returns-2 c = (simp (eq-eqb _ _ (c .before .if1 .left), ne-eqb _ _ (λ q. c .if2 .taken (q ∙ sym (size (c .before .before))))), refl)
 
-fill-by-width-requires : tie.Need-fill-by-width-requires
-fill-by-width-requires c κs =
+fill-requires : tie.Need-fill-requires
+fill-requires c κs =
     let a = c .before in
-    (a .before .before .before .before .before .before .pre, a .before .if1 .left, a .if2 .left ∙ size (a .before .before))
+    record { laid = a .before .before .before .before .before .before .pre; words = a .before .if1 .left; entries = a .if2 .left ∙ size (a .before .before) }
 
 same-length : tie.Need-same-length
 same-length c = search needs
@@ -45,7 +45,7 @@ returns-3 : tie.Need-returns-3
 unfolding unpackBy
 returns-3 c =
     let a = c .before .before .before .before in
-    (simp (eq-eqb _ _ (a .before .if1 .left), eq-eqb _ _ (a .if2 .left ∙ size (a .before .before))), c .before .before .fill-by-width .ensures)
+    (simp (eq-eqb _ _ (a .before .if1 .left), eq-eqb _ _ (a .if2 .left ∙ size (a .before .before))), c .before .before .fill .ensures)
 
 pub unpack-in-spec : {M : Type 1} → statement M
 unpack-in-spec =
@@ -57,6 +57,6 @@ unpack-in-spec =
     returns
     mul-if2
     returns-2
-    fill-by-width-requires
+    fill-requires
     same-length
     returns-3)

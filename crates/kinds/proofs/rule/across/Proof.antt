@@ -1,6 +1,6 @@
 -- The major number is put together as the rule says; its high digit is below the halves. Assumes nothing.
 use borrow.Author.Needs.{needs}
-use mathlib.Core.Path.{_≡_, ap, _∙_}
+use mathlib.Core.Path.{ap}
 use Prim.Native.Nat.{ℕ, _+_, _*_, _/_, _<_}
 use native.Mathlib.Nat.{mod-lt}
 use native.Mathlib.Omega.{arith}
@@ -8,14 +8,20 @@ use Rattle.kinds.specs.Rule.{major}
 use Rattle.kinds.proofs.rule.across.Statement.{statement}
 use Rattle.kinds.proofs.rule.across.Tie as tie
 
-small : (c : tie.After-half-of) → c .half-of .result < 2
-small c = let s = c .before in omega (arith, mod-lt (s .args .i / s .args .side) (s .pre .1), s .pre, c .half-of .ensures)
+small : (c : tie.After-remainder) → c .remainder .result < 2
+small c = let s = c .before .before .before in omega (arith, mod-lt (s .args .element .0 / s .args .side) (s .pre .1), s .pre, c .remainder .ensures)
 
-div-half-of : tie.Need-div-half-of
-div-half-of c = search needs
+cast-l : tie.Need-cast-l
+cast-l c = search needs
 
-half-of-requires : tie.Need-half-of-requires
-half-of-requires c κs = search needs
+cast-i : tie.Need-cast-i
+cast-i c = search needs
+
+div-remainder : tie.Need-div-remainder
+div-remainder c = search needs
+
+remainder-requires : tie.Need-remainder-requires
+remainder-requires c κs = search needs
 
 mul-result : tie.Need-mul-result
 mul-result c = omega (arith, small c)
@@ -25,7 +31,7 @@ add-result c = omega (arith, small c)
 
 returns : tie.Need-returns
 unfolding major
-returns c = (ap (λ (n : ℕ). n * 8 + c .before .args .lane / 4) (c .half-of .ensures), omega (arith, small c))
+returns c = (ap (λ (n : ℕ). n * 8 + c .before .before .before .args .lane .0 / 4) (c .remainder .ensures), omega (arith, small c))
 
 pub across-spec : {M : Type 1} → statement M
-across-spec = tie.close (tie.spec div-half-of half-of-requires mul-result add-result returns)
+across-spec = tie.close (tie.spec cast-l cast-i div-remainder remainder-requires mul-result add-result returns)

@@ -5,6 +5,8 @@ use Prim.Native.Nat.{_≤_}
 use native.Mathlib.Omega.{arith}
 use lib.ListN.{length}
 use lib.Seq.{length-take-le}
+use Rattle.warp.specs.Buffers.{wordsNeeded}
+use Rattle.warp.proofs.Placed.{length-c}
 use Rattle.run.proofs.Laws.{used-le, fed-is}
 use Rattle.run.proofs.Run.fed.Statement.{statement}
 use Rattle.run.proofs.Run.fed.Tie as tie
@@ -14,18 +16,21 @@ long : (s : tie.Start) → length (s .args .self .sums) ≡ 128
 long s = search needs
 
 -- the used ones are among them
-module _ (c : tie.After-needed) where
+module _ (c : tie.After-of) where
   abbrev S : tie.Start
   S = c .before .before .before .before .before .before .before .before
 
-  inside : (c .needed .result ≤ 128) × (length (S .args .self .sums) ≡ 128)
-  inside = (omega (arith, used-le (S .args .self .kind .0) (S .pre .0 .0 .high), c .needed .ensures), long S)
+  is : c .of .result .c ≡ wordsNeeded (S .args .self .kind .0) 2
+  is = length-c (S .args .self .kind .0) _ (c .of .ensures)
+
+  inside : (c .of .result .c ≤ 128) × (length (S .args .self .sums) ≡ 128)
+  inside = (omega (arith, used-le (S .args .self .kind .0) (S .pre .0 .0 .high), is), long S)
 
 add-blocks : tie.Need-add-blocks
 add-blocks c = search needs
 
-needed-requires : tie.Need-needed-requires
-needed-requires c κs = search needs
+of-requires : tie.Need-of-requires
+of-requires c κs = search needs
 
 array-share-prefix-c : tie.Need-array-share-prefix-c
 array-share-prefix-c c = omega (arith, inside c)
@@ -47,8 +52,8 @@ work-requires c κs =
       record {
         of-a = p .1 .0;
         of-b = p .1 .1;
-        of-c = length-take-le _ _ (omega (arith, inside n)) ∙ n .needed .ensures;
-        of-d = length-take-le _ _ (omega (arith, inside n)) ∙ n .needed .ensures;
+        of-c = length-take-le _ _ (omega (arith, inside n)) ∙ is n;
+        of-d = length-take-le _ _ (omega (arith, inside n)) ∙ is n;
       },
     )
 
@@ -56,14 +61,14 @@ returns : tie.Need-returns
 returns c =
     let n = c .before .before .before .before in
     let w = c .before .work in
-    fed-is (S n .args .self) (n .needed .result) _ _ _ (w .kept .1 .1 .1 .1 .1 .1 .0 ∙ length-take-le _ _ (omega (arith, inside n))) (n .needed .ensures) (w .ensures)
+    fed-is (S n .args .self) (n .of .result .c) _ _ _ (w .kept .1 .1 .1 .1 .1 .1 .0 ∙ length-take-le _ _ (omega (arith, inside n))) (is n) (w .ensures)
 
 pub fed-spec : {M : Type 1} → statement M
 fed-spec =
     tie.close
     (tie.spec
     add-blocks
-    needed-requires
+    of-requires
     array-share-prefix-c
     slice-aggregate-work
     array-borrow-prefix-d

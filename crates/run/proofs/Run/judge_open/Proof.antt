@@ -4,6 +4,7 @@ use borrow.Author.Tests.{eq-eqb, ne-eqb}
 use mathlib.Core.Path.{sym, ap, _∙_}
 use Rattle.kinds.specs.Refusals.{told, given, numberOf, detailOf}
 use Rattle.step.specs.Answers.{Ready}
+use Rattle.warp.proofs.Placed.{length-c}
 use Rattle.step.proofs.Accepted.{selected-given, selected-is, selected-refused}
 use Rattle.run.specs.Answers.{openAnswer}
 use Rattle.run.proofs.Run.judge_open.Statement.{statement}
@@ -30,22 +31,20 @@ returns c =
     let x = c .enum-told2 .given .0 .0 in
     e ∙ selected-refused (s .args .kind .0) (s .args .signs .0) (s .args .mode .0) tt _ (numberOf x) (detailOf x) (sym e ∙ c .before .before .judge .ensures)
 
-needed-requires : tie.Need-needed-requires
-needed-requires c κs = let r = ready c in search needs
+of-requires : tie.Need-of-requires
+of-requires c κs = let r = ready c in search needs
 
 returns-2 : tie.Need-returns-2
 unfolding openAnswer
 returns-2 c =
-    let a = c .before in
-    sym (selected-is _ _ _ (ready (a .before)) _ ∙ simp (ne-eqb _ _ (λ q. c .if1 .taken (q ∙ sym (a .needed .ensures)))))
+    sym (selected-is _ _ _ (ready (c .before .before .before)) _ ∙ simp (ne-eqb _ _ (λ q. c .if1 .taken (q ∙ sym (length-c (c .before .before .before .before .before .before .args .kind .0) _ (c .before .before .of .ensures))))))
 
 returns-3 : tie.Need-returns-3
 unfolding openAnswer
 returns-3 c =
-    let a = c .before in
-    ap told (a .before .enum-told .given .1) ∙ sym (selected-is _ _ _ (ready (a .before)) _ ∙ simp (eq-eqb _ _ (c .if1 .left ∙ a .needed .ensures)))
+    ap told (c .before .before .before .enum-told .given .1) ∙ sym (selected-is _ _ _ (ready (c .before .before .before)) _ ∙ simp (eq-eqb _ _ (c .if1 .left ∙ length-c (c .before .before .before .before .before .before .args .kind .0) _ (c .before .before .of .ensures))))
 
 pub judge-open-spec : {M : Type 1} → statement M
 judge-open-spec =
     tie.close
-    (tie.spec judge-requires enum-told enum-told-2 returns needed-requires returns-2 returns-3)
+    (tie.spec judge-requires enum-told enum-told-2 returns of-requires returns-2 returns-3)

@@ -1,0 +1,42 @@
+-- The line of the table, spread by each role. Assumes nothing.
+use borrow.Author.Needs.{needs}
+use mathlib.Core.Path.{_≡_, sym, subst}
+use Prim.Native.Nat.{ℕ, _<_, _≤_}
+use native.Mathlib.Omega.{arith}
+use Rattle.kinds.specs.Kinds.{roleOf, entryOf}
+use Rattle.kinds.specs.Rule.{sideOf, layoutOf}
+use Rattle.kinds.specs.declared.Entry.{Entry}
+use Rattle.kinds.specs.declared.Layout.{Layout}
+use Rattle.kinds.specs.declared.Layouts.{Layouts}
+use Rattle.kinds.proofs.Table.{Legal, bits-pos, side-pos}
+use Rattle.kinds.proofs.Layouts.of.Statement.{statement}
+use Rattle.kinds.proofs.Layouts.of.Tie as tie
+
+line-has : (s : tie.Start) (e : Entry) → e ≡ entryOf (s .args .kind .0) → (r : ℕ) → r ≤ 2 → (0 < e .3) × (0 < sideOf (e .3)) × (r ≤ 2)
+line-has s e p r h =
+    let ok : Legal (s .args .kind .0) r = record { low = s .pre .0; high = s .pre .1; role = h } in
+    (subst (λ (e : Entry). 0 < e .3) (sym p) (bits-pos _ r ok), subst (λ (e : Entry). 0 < sideOf (e .3)) (sym p) (side-pos _ r ok), h)
+
+of-requires : tie.Need-of-requires
+of-requires c κs = search needs
+
+layout-in-requires : tie.Need-layout-in-requires
+layout-in-requires c κs = line-has (c .before) _ (c .of .ensures) 0 (omega arith)
+
+layout-in-requires-2 : tie.Need-layout-in-requires-2
+layout-in-requires-2 c κs = line-has (c .before .before) _ (c .before .of .ensures) 1 (omega arith)
+
+layout-in-requires-3 : tie.Need-layout-in-requires-3
+layout-in-requires-3 c κs = line-has (c .before .before .before) _ (c .before .before .of .ensures) 2 (omega arith)
+
+made : (e e′ : Entry) → e ≡ e′ → (f g h : Layout) → f ≡ layoutOf e (roleOf 0) → g ≡ layoutOf e (roleOf 1) → h ≡ layoutOf e (roleOf 2)
+    → _≡_ {A = Layouts} (record { a = f; b = g; c = h }) (record { a = layoutOf e′ (roleOf 0); b = layoutOf e′ (roleOf 1); c = layoutOf e′ (roleOf 2) })
+made e e′ p f g h pf pg ph = rw (pf, pg, ph, p)
+
+returns : tie.Need-returns
+returns c = made _ _ (c .before .before .before .of .ensures) _ _ _ (c .before .before .layout-in .ensures) (c .before .layout-in2 .ensures) (c .layout-in3 .ensures)
+
+pub of-spec : {M : Type 1} → statement M
+of-spec =
+    tie.close
+    (tie.spec of-requires layout-in-requires layout-in-requires-2 layout-in-requires-3 returns)
