@@ -96,15 +96,15 @@ fn micros(time: Duration) -> f64 {
     time.as_secs_f64() * 1e6
 }
 
-/// The ratio is against the slower of the plain ones.
+/// The ratio is to the faster of the plain ones.
 fn print_row(name: &str, library: f64, c: f64, rust: Option<f64>) {
-    let slower = rust.map_or(c, |rust| rust.max(c));
+    let faster = rust.map_or(c, |rust| rust.min(c));
     println!(
         "| {name} | {} | {} | {} | {:.2} |",
         digits(library),
         digits(c),
         rust.map_or(String::new(), digits),
-        library / slower
+        library / faster
     );
 }
 

@@ -296,7 +296,7 @@ fn find_in(f: Layout, x: u32, y: u32) -> Held
     if f.halves * 8 <= major {
         return Held::Refused(Refusal::Outside);
     }
-    if f.spans * 4 * f.side <= minor {
+    if f.spans * Lane::QUAD * f.side <= minor {
         return Held::Refused(Refusal::Outside);
     }
     let l = rule::lane_at(f.side, major, minor) as u32;

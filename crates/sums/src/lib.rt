@@ -185,7 +185,7 @@ fn lane_cells(
 {
     let f = l.a;
     let g = l.c;
-    let n = f.spans * 4 * f.side;
+    let n = f.spans * Lane::QUAD * f.side;
     for i in 0..g.words {
         let element = Element(i as u32);
         let row = kinds::rule::across(2, g.halves, lane, element);
@@ -209,7 +209,7 @@ pub fn cells(
     requires { ⌜ Summable l (mode .0) h (now c) (now d) ⌝ }
     ensures { λ _. ⌜ now (d .exit) ≡ digitsWords l (mode .0) h (now (x .entry)) (now (y .entry)) (now (c .entry)) ⌝ }
 {
-    for lane in 0..32 {
-        lane_cells(l, mode, h, x, y, c, d, Lane(lane));
+    for lane in 0..Lane::COUNT {
+        lane_cells(l, mode, h, x, y, c, d, Lane(lane as u32));
     }
 }

@@ -65,7 +65,7 @@ pub fn rows_in(f: Layout) -> usize
     ensures small { λ r. ⌜ r ≤ 128 ⌝ }
 {
     if f.turned {
-        return f.spans * 4 * f.side;
+        return f.spans * Lane::QUAD * f.side;
     }
     f.halves * 8
 }
@@ -78,7 +78,7 @@ pub fn columns_in(f: Layout) -> usize
     if f.turned {
         return f.halves * 8;
     }
-    f.spans * 4 * f.side
+    f.spans * Lane::QUAD * f.side
 }
 
 // The step from an element of a stretch to the next.

@@ -54,28 +54,28 @@ fn other_kinds() {
 
 fn refusals() {
     round(0, 0, 128, 512);
-    trial(11, 3, 127, 511, 256, 5, 6);
-    trial(4294967295, 0, 128, 512, 256, 5, 6);
-    trial(3, 3, 127, 511, 256, 5, 6);
+    trial(Case(11, 3, 127, 511), Spoiled(256, 5, 6));
+    trial(Case(4294967295, 0, 128, 512), Spoiled(256, 5, 6));
+    trial(Case(3, 3, 127, 511), Spoiled(256, 5, 6));
     round(3, 0, 127, 512);
     round(3, 0, 129, 512);
     round(3, 0, 128, 511);
     round(3, 0, 128, 513);
     round(3, 0, 127, 511);
-    trial(3, 0, 127, 512, 256, 5, 6);
-    trial(3, 0, 128, 511, 256, 5, 6);
+    trial(Case(3, 0, 127, 512), Spoiled(256, 5, 6));
+    trial(Case(3, 0, 128, 511), Spoiled(256, 5, 6));
     round(9, 2, 0, 0);
 }
 
 fn wide_entries() {
-    trial(1, 0, 32, 1024, 2, 3, 1000);
-    trial(1, 1, 32, 1024, 2, 1023, 1023);
-    trial(4, 0, 64, 512, 16, 511, 510);
-    trial(3, 0, 128, 512, 256, 300, 5);
-    trial(6, 1, 32, 64, 65536, 0, 63);
-    trial(7, 2, 64, 128, 65536, 127, 126);
-    trial(8, 0, 128, 128, 4294967296, 64, 65);
-    trial(6, 2, 128, 128, 18446744073709551615, 9, 8);
+    trial(Case(1, 0, 32, 1024), Spoiled(2, 3, 1000));
+    trial(Case(1, 1, 32, 1024), Spoiled(2, 1023, 1023));
+    trial(Case(4, 0, 64, 512), Spoiled(16, 511, 510));
+    trial(Case(3, 0, 128, 512), Spoiled(256, 300, 5));
+    trial(Case(6, 1, 32, 64), Spoiled(65536, 0, 63));
+    trial(Case(7, 2, 64, 128), Spoiled(65536, 127, 126));
+    trial(Case(8, 0, 128, 128), Spoiled(4294967296, 64, 65));
+    trial(Case(6, 2, 128, 128), Spoiled(18446744073709551615, 9, 8));
 }
 
 fn template_refusals() {
@@ -86,29 +86,26 @@ fn template_refusals() {
     template(63, 255);
 }
 
+// A kind and a role with so many words and so many entries.
+struct Case(u32, u32, usize, usize);
+
+// An entry put at two indices before packing, or none where it is 0.
+struct Spoiled(u64, usize, usize);
+
 fn round(kind: u32, role: u32, n: usize, entries: usize) {
-    trial(kind, role, n, entries, 0, 0, 0);
+    trial(Case(kind, role, n, entries), Spoiled(0, 0, 0));
 }
 
-// A kind and a role with so many words and entries; before packing, x is put at i and j, or nothing where x is 0.
-fn trial(kind: u32, role: u32, n: usize, entries: usize, x: u64, i: usize, j: usize) {
+fn trial(case: Case, spoiled: Spoiled) {
     let mut words: [u32; 256] = [0; 256];
     let mut matrix: [u64; 1024] = [0; 1024];
-    trial_cut(kind, role, n, entries, x, i, j, &mut words, &mut matrix);
+    trial_cut(case, spoiled, &mut words, &mut matrix);
 }
 
-// The first n words and the first so many entries.
-fn trial_cut(
-    kind: u32,
-    role: u32,
-    n: usize,
-    entries: usize,
-    x: u64,
-    i: usize,
-    j: usize,
-    words: &mut [u32],
-    matrix: &mut [u64],
-) {
+// The first so many words and entries.
+fn trial_cut(case: Case, spoiled: Spoiled, words: &mut [u32], matrix: &mut [u64]) {
+    let n = case.2;
+    let entries = case.3;
     if words.len() < n {
         return;
     }
@@ -116,30 +113,20 @@ fn trial_cut(
         return;
     }
     trial_in(
-        kind,
-        role,
-        x,
-        i,
-        j,
+        case.0,
+        case.1,
+        spoiled,
         &mut words[0..n],
         &mut matrix[0..entries],
     );
 }
 
-fn trial_in(
-    kind: u32,
-    role: u32,
-    x: u64,
-    i: usize,
-    j: usize,
-    words: &mut [u32],
-    matrix: &mut [u64],
-) {
+fn trial_in(kind: u32, role: u32, spoiled: Spoiled, words: &mut [u32], matrix: &mut [u64]) {
     number(b"kind ", kind as u64);
     number(b" role ", role as u64);
     lengths(words.len(), b" words, ", matrix.len(), b" entries");
     there(kind, role, words, matrix);
-    spoil(matrix, x, i, j);
+    spoil(matrix, spoiled);
     back(kind, role, matrix, words);
 }
 
@@ -202,15 +189,16 @@ fn tell_words(v: Verdict, words: &[u32], kind: u32, role: u32) {
     }
 }
 
-fn spoil(matrix: &mut [u64], x: u64, i: usize, j: usize) {
+fn spoil(matrix: &mut [u64], spoiled: Spoiled) {
+    let x = spoiled.0;
     if x == 0 {
         return;
     }
     number(b", ", x);
-    number(b" at ", i as u64);
-    number(b" and ", j as u64);
-    put(matrix, i, x);
-    put(matrix, j, x);
+    number(b" at ", spoiled.1 as u64);
+    number(b" and ", spoiled.2 as u64);
+    put(matrix, spoiled.1, x);
+    put(matrix, spoiled.2, x);
 }
 
 fn put(matrix: &mut [u64], i: usize, x: u64) {

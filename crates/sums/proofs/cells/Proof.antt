@@ -28,6 +28,9 @@ u s = digitsWords (s .args .l) (s .args .mode .0) (s .args .h) (now (s .args .x)
 loop-holds : tie.Need-loop-holds Inv-loop μ-loop
 loop-holds c = let s = c .before .before in (omega arith, brings-none (u s) (Words (s .args .l .c .words)) (now (s .args .d)))
 
+cast-t13 : tie.Need-cast-t13 Inv-loop μ-loop
+cast-t13 c = let i = c .before in omega (arith, i .loop-test .taken)
+
 lane-cells-requires : tie.Need-lane-cells-requires Inv-loop μ-loop
 lane-cells-requires c κs =
     let i = c .before in
@@ -82,6 +85,7 @@ cells-spec =
     Inv-loop
     μ-loop
     loop-holds
+    cast-t13
     lane-cells-requires
     add-lane
     loop-less
