@@ -2,12 +2,12 @@
 use mathlib.Core.Path.{_≡_, refl, sym, ap, _∙_}
 use mathlib.Core.Bool.{Bool, true, false, _||_}
 use mathlib.Core.List.{List, [], _∷_, _++_, append-assoc, append-nil}
-use Prim.Native.Nat.{ℕ, _+_, _*_, _%_, _<_, _≤_}
+use Prim.Native.Nat.{ℕ, _+_, _-_, _*_, _%_, _<_, _≤_}
 use native.Mathlib.Nat.{add-zero}
 use native.Mathlib.Numerals.{add-one}
 use native.Mathlib.Omega.{arith}
 use lib.ListN.{length, take, drop, getD, set, length-append, length-set, length-take, length-drop, take-append-drop}
-use lib.Seq.{length-take-le, take-suc-set, take-add, getD-drop}
+use lib.Seq.{length-take-le, take-suc-set, take-add, getD-drop, drop-set-lt, drop-drop}
 use borrow.Author.Tests.{leb-false}
 use Rattle.laws.specs.Choice.{if_then_else_, _≤?_, _<?_}
 use Rattle.laws.proofs.Choice.{or-false}
@@ -25,17 +25,23 @@ use Rattle.lines.specs.Text.{decimal, lineOf, printed, shortText, Put}
 
 -- no text, one byte, and a text after a text
 pub put-none : (xs : List ℕ) (at : ℕ) → Put [] xs at xs at
-put-none xs at = record { says = sym (append-nil (take at xs)); ends = omega arith; keeps = refl }
+put-none xs at = record { says = sym (append-nil (take at xs)); ends = omega arith; behind = refl; keeps = refl }
 
 pub put-one : (xs : List ℕ) (at b : ℕ) → at < length xs → Put (b ∷ []) xs at (set xs at b) (at + 1)
-put-one xs at b h = record { says = rw add-one (take-suc-set xs at b h); ends = refl; keeps = length-set xs at b }
+put-one xs at b h = record { says = rw add-one (take-suc-set xs at b h); ends = refl; behind = drop-set-lt (at + 1) xs at b (omega arith); keeps = length-set xs at b }
 
 pub put-put : {t u xs ys zs : List ℕ} {a b c : ℕ} → Put t xs a ys b → Put u ys b zs c → Put (t ++ u) xs a zs c
 put-put {t} {u} {xs} {ys} {zs} {a} {b} {c} p q = record {
   says = q .says ∙ ap (λ (l : List ℕ). l ++ u) (p .says) ∙ append-assoc (take a xs) t u;
   ends = simp length-append (omega arith);
+  behind = q .behind ∙ further b c ys xs (p .behind) (omega (arith, q .ends));
   keeps = q .keeps ∙ p .keeps;
 }
+  where
+    further : (b c : ℕ) (ys xs : List ℕ) → drop b ys ≡ drop b xs → b ≤ c → drop c ys ≡ drop c xs
+    further b c ys xs e h =
+        let n : c ≡ b + (c - b) = omega arith in
+        ap (λ (m : ℕ). drop m ys) n ∙ sym (drop-drop (c - b) b ys) ∙ ap (drop (c - b)) e ∙ drop-drop (c - b) b xs ∙ ap (λ (m : ℕ). drop m xs) (sym n)
 
 pub put-ends : {t xs ys : List ℕ} {a b : ℕ} → Put t xs a ys b → (n : ℕ) → length t ≤ n → b ≤ a + n
 put-ends p n h = omega arith

@@ -2,7 +2,7 @@
 use Prim.Native.Nat.{ℕ, _+_, _/_, _%_}
 use mathlib.Core.Path.{_≡_}
 use mathlib.Core.List.{List, [], _∷_, _++_}
-use lib.ListN.{length, take}
+use lib.ListN.{length, take, drop}
 use Rattle.laws.specs.Choice.{if_then_else_, _<?_}
 use Rattle.kinds.specs.Refusals.{Answer, given, refusal}
 use Rattle.kinds.specs.Answers.{placeAnswer}
@@ -45,8 +45,9 @@ printed (_ ∷ _ ∷ []) = shortText
 printed (_ ∷ _ ∷ _ ∷ []) = shortText
 printed (kind ∷ role ∷ lane ∷ element ∷ rest) = lineOf (placeAnswer kind role lane element) ++ printed rest
 
--- a text was put into a buffer at a place: what stands before the new end is what stood before the place, and the text
+-- a text was put into a buffer at a place: before the new end stands what stood before the place, and the text; behind it, what stood there
 pub record Put (text : List ℕ) (before : List ℕ) (at : ℕ) (after : List ℕ) (end : ℕ) : Type 0 where
   pub says : take end after ≡ take at before ++ text
   pub ends : end ≡ at + length text
+  pub behind : drop end after ≡ drop end before
   pub keeps : length after ≡ length before

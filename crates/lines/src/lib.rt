@@ -99,7 +99,7 @@ pub fn put_line(out: &mut [u8], at: usize, kind: u8, role: u8, lane: u8, element
 // The second `ensures` is what `&out[..r]` asks of its caller.
 pub fn put_lines(records: &[u8], out: &mut [u8]) -> usize
     requires { ⌜ 13 * (length (now records) / 4 + 1) ≤ length (now out) ⌝ }
-    ensures { λ r. ⌜ take r (now (out .exit)) ≡ printed (now (records .entry)) ⌝ }
+    ensures { λ r. ⌜ Put (printed (now (records .entry))) (now (out .entry)) 0 (now (out .exit)) r ⌝ }
     ensures { λ r. ⌜ (r ≤ length (now (out .exit))) × (r ≡ length (take r (now (out .exit)))) ⌝ }
 {
     let whole = records.len() / 4;

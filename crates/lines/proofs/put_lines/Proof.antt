@@ -1,7 +1,6 @@
 -- The loop's invariant: what is printed for the first i records was put, at most 12 bytes for each. The measure is the records that are
 -- left. Assumes nothing.
 use borrow.Author.Needs.{needs}
-use mathlib.Core.Path.{ap, _∙_}
 use Prim.Native.Nat.{_-_, _*_, _≤_}
 use native.Mathlib.Omega.{arith}
 use lib.ListN.{take}
@@ -79,8 +78,7 @@ returns : tie.Need-returns Inv-loop μ-loop
 returns c =
     let p = c .before .before in
     let l = p .before .before .before .before .before in (
-      put-put (l .loop .inv .2) (p .put-text .ensures) .says
-          ∙ printed-rest (now (l .before .before .before .args .records)) (4 * l .loop .i) (omega arith) (search needs) (search needs),
+      rw (printed-rest (now (l .before .before .before .args .records)) (4 * l .loop .i) (omega arith) (search needs) (search needs)) at (put-put (l .loop .inv .2) (p .put-text .ensures)),
       counts _ _ (search needs),
     )
 
@@ -90,7 +88,7 @@ same-length-2 c = search needs
 returns-2 : tie.Need-returns-2 Inv-loop μ-loop
 returns-2 c =
     let l = c .before .before in (
-      l .loop .inv .2 .says ∙ ap printed (take-all (4 * l .loop .i) (now (l .before .before .before .args .records)) (search needs)),
+      rw (take-all (4 * l .loop .i) (now (l .before .before .before .args .records)) (search needs)) at (l .loop .inv .2),
       counts _ _ (search needs),
     )
 
