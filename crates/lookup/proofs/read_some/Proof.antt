@@ -6,11 +6,8 @@ use Rattle.lines.proofs.Laws.{counts}
 use Rattle.lookup.proofs.read_some.Statement.{statement}
 use Rattle.lookup.proofs.read_some.Tie as tie
 
-read-requires : tie.Need-read-requires
-read-requires c κs = search needs
-
-count-requires : tie.Need-count-requires
-count-requires c κs = search needs
+read-once-requires : tie.Need-read-once-requires
+read-once-requires c κs = search needs
 
 sub-missing : tie.Need-sub-missing
 sub-missing c = search needs
@@ -18,20 +15,20 @@ sub-missing c = search needs
 add-whole : tie.Need-add-whole
 add-whole c = search needs
 
-sub-read-full : tie.Need-sub-read-full
-sub-read-full c = search needs
+sub-read-rest : tie.Need-sub-read-rest
+sub-read-rest c = search needs
 
-part-read-full-start : tie.Need-part-read-full-start
-part-read-full-start c = search needs
+part-read-rest-start : tie.Need-part-read-rest-start
+part-read-rest-start c = search needs
 
-part-read-full-end : tie.Need-part-read-full-end
-part-read-full-end c = search needs
+part-read-rest-end : tie.Need-part-read-rest-end
+part-read-rest-end c = search needs
 
-read-full-requires : tie.Need-read-full-requires
-read-full-requires c κs = search needs
+read-rest-requires : tie.Need-read-rest-requires
+read-rest-requires c κs = search needs
 
-add-result : tie.Need-add-result
-add-result c = search needs
+add-t10 : tie.Need-add-t10
+add-t10 c = search needs
 
 same-length : tie.Need-same-length
 same-length c = search needs
@@ -43,14 +40,13 @@ pub read-some-spec : {M : Type 1} → statement M
 read-some-spec =
     tie.close
     (tie.spec
-    read-requires
-    count-requires
+    read-once-requires
     sub-missing
     add-whole
-    sub-read-full
-    part-read-full-start
-    part-read-full-end
-    read-full-requires
-    add-result
+    sub-read-rest
+    part-read-rest-start
+    part-read-rest-end
+    read-rest-requires
+    add-t10
     same-length
     returns)

@@ -1,7 +1,7 @@
 -- Nothing has to hold from turn to turn; the measure is the number of turns that are left. Assumes nothing.
 use borrow.Author.Needs.{needs}
-use Rattle.lookup.proofs.main.Statement.{statement}
-use Rattle.lookup.proofs.main.Tie as tie
+use Rattle.lookup.proofs.answer_all.Statement.{statement}
+use Rattle.lookup.proofs.answer_all.Tie as tie
 
 abbrev Inv-loop : tie.InvT-loop
 Inv-loop turns₀ turns = Unit {0}
@@ -30,8 +30,8 @@ returns c = search needs
 returns-2 : tie.Need-returns-2 Inv-loop μ-loop
 returns-2 c = search needs
 
-pub main-spec : {M : Type 1} → statement M
-main-spec =
+pub answer-all-spec : {M : Type 1} → statement M
+answer-all-spec =
     tie.close
     (tie.spec
     Inv-loop
