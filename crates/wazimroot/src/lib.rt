@@ -11,12 +11,11 @@ ghost use Rattle.pack.specs.Answers.{packAnswer};
 ghost use Rattle.template.specs.Templates.{templateWords, templateRecord, readAnswer as recordReadAnswer, writeAnswer as recordWriteAnswer};
 ghost use Rattle.step.specs.Step.{stepped};
 ghost use Rattle.step.specs.Answers.{stepAnswer, plainAnswer};
-ghost use Rattle.run.specs.Runs.{openedRun, zeroRun, fedRun, usedOf};
 ghost use Rattle.run.specs.Answers.{openAnswer, feedAnswer, readAnswer};
 ghost use Rattle.scale.specs.Bytes.{scaled};
 ghost use Rattle.scale.specs.Answers.{scaleAnswer};
 ghost use Rattle.wazimroot.specs.Codes.{codeOf, pairAfter};
-ghost use Rattle.wazimroot.specs.Words.{runIn, wordsOf};
+ghost use Rattle.wazimroot.specs.Words.{runIn, wordsOf, openedWords, fedWords, readWords};
 use kinds::Column;
 use kinds::Element;
 use kinds::Held;
@@ -180,7 +179,7 @@ pub extern "C" fn wz_open(
     words: &mut [u32; 132],
 ) -> u64
     ensures { λ r. ⌜ r ≡ codeOf (openAnswer kind signs mode (length (now (c .entry)))) ⌝ }
-    ensures { λ _. ⌜ now (words .exit) ≡ wordsOf (after (openAnswer kind signs mode (length (now (c .entry)))) (openedRun kind signs mode (now (c .entry))) zeroRun) ⌝ }
+    ensures { λ _. ⌜ now (words .exit) ≡ openedWords kind signs mode (now (c .entry)) ⌝ }
 {
     let opened = Run::open(Kind(kind), Signs(signs), Mode(mode), c);
     let run = opened.run;
@@ -193,7 +192,7 @@ pub extern "C" fn wz_open(
 #[no_mangle]
 pub extern "C" fn wz_feed(words: &mut [u32; 132], a: &[u32], b: &[u32]) -> u64
     ensures { λ r. ⌜ r ≡ codeOf (feedAnswer (runIn (now (words .entry))) (length (now (a .entry))) (length (now (b .entry)))) ⌝ }
-    ensures { λ _. ⌜ now (words .exit) ≡ after (feedAnswer (runIn (now (words .entry))) (length (now (a .entry))) (length (now (b .entry)))) (wordsOf (fedRun (runIn (now (words .entry))) (now (a .entry)) (now (b .entry)))) (now (words .entry)) ⌝ }
+    ensures { λ _. ⌜ now (words .exit) ≡ fedWords (now (words .entry)) (now (a .entry)) (now (b .entry)) ⌝ }
 {
     let fed = taken(words).feed(a, b);
     let run = fed.run;
@@ -211,7 +210,7 @@ pub extern "C" fn wz_feed(words: &mut [u32; 132], a: &[u32], b: &[u32]) -> u64
 #[no_mangle]
 pub extern "C" fn wz_read(words: &[u32; 132], d: &mut [u32]) -> u64
     ensures { λ r. ⌜ r ≡ codeOf (readAnswer (runIn (now (words .entry))) (length (now (d .entry)))) ⌝ }
-    ensures { λ _. ⌜ now (d .exit) ≡ after (readAnswer (runIn (now (words .entry))) (length (now (d .entry)))) (usedOf (runIn (now (words .entry)))) (now (d .entry)) ⌝ }
+    ensures { λ _. ⌜ now (d .exit) ≡ readWords (now (words .entry)) (now (d .entry)) ⌝ }
 {
     let verdict = taken(words).read(d).verdict;
     code_of(verdict)

@@ -1,0 +1,84 @@
+-- What the C interface promises beyond its contracts: a run and its words are the same thing, so that demand 3 reads over the words, and an answer's
+-- word tells the answer. Assumes nothing.
+use mathlib.Core.Path.{_≡_, refl, ap, _∙_}
+use mathlib.Core.List.{List, [], _∷_}
+use mathlib.Core.Logic.{_↔_}
+use Prim.Native.Nat.{ℕ, _/_, _%_, _^_, _<_, _≤_}
+use native.Mathlib.Omega.{arith}
+use lib.ListN.{length}
+use Rattle.kinds.specs.Refusals.{Answer, given, refusal, told, after, numberOf}
+use Rattle.kinds.specs.declared.Refusal.{Refusal}
+use Rattle.kinds.specs.declared.Refusal.the-variants.{UnknownKind, UnknownRole, NotArithmetic, BadSelectors, WrongLength, Outside, TooWide, BadScale, RunFull, BadRun}
+use Rattle.kinds.specs.declared.Verdict.{Verdict}
+use Rattle.kinds.specs.declared.Verdict.the-variants.{Accepted, Refused}
+use Rattle.run.specs.declared.Run.{Run}
+use Rattle.run.specs.Runs.{openedRun, zeroRun, fedRun, usedOf}
+use Rattle.run.specs.Answers.{openAnswer, feedAnswer, readAnswer}
+use Rattle.run.specs.Blocks.{Block, fedBy, fedAll}
+use Rattle.wazimroot.specs.Codes.{codeOf}
+use Rattle.wazimroot.specs.Words.{runIn, wordsOf, openedWords, readWords, fedAllWords}
+
+-- The run in a run's words is the run,
+pub run-back : (run : Run) → runIn (wordsOf run) ≡ run
+unfolding runIn wordsOf
+run-back run = refl
+
+-- and the words of the run in 132 words are those words.
+pub words-back : (ws : List ℕ) → 4 ≤ length ws → wordsOf (runIn ws) ≡ ws
+unfolding runIn wordsOf
+words-back [] l = absurd (omega arith)
+words-back (x ∷ []) l = absurd (omega arith)
+words-back (x ∷ y ∷ []) l = absurd (omega arith)
+words-back (x ∷ y ∷ z ∷ []) l = absurd (omega arith)
+words-back (x ∷ y ∷ z ∷ w ∷ ws) l = refl
+
+-- To feed the words of a run is to feed the run.
+after-words : (q : Answer (Unit {0})) (new old : Run) → after q (wordsOf new) (wordsOf old) ≡ wordsOf (after q new old)
+after-words (given x) new old = refl
+after-words (refusal n d) new old = refl
+
+pub fed-words : (run : Run) (xs : List Block) → fedAllWords (wordsOf run) xs ≡ wordsOf (fedAll run xs)
+unfolding fedAllWords fedAll
+fed-words run [] = refl
+fed-words run (x ∷ xs) =
+    ap (λ (ws : List ℕ). fedAllWords ws xs)
+    (ap (λ (r : Run). after (feedAnswer r (length (x .a)) (length (x .b))) (wordsOf (fedRun r (x .a) (x .b))) (wordsOf run)) (run-back run)
+    ∙ after-words (feedAnswer run (length (x .a)) (length (x .b))) (fedRun run (x .a) (x .b)) run)
+    ∙ fed-words (fedBy run x) xs
+
+-- Demand 3 over the words: after an accepted wz_open and any list of wz_feed the words hold the run of which demand 3 speaks, and wz_read leaves
+-- in D what a read of that run leaves, whose entries are its sums (`read-sums`).
+module _ (kind signs mode : ℕ) (c : List ℕ) (opened : openAnswer kind signs mode (length c) ≡ given tt) (xs : List Block) where
+  pub words-hold : runIn (fedAllWords (openedWords kind signs mode c) xs) ≡ fedAll (openedRun kind signs mode c) xs
+  words-hold =
+      ap (λ (q : Answer (Unit {0})). runIn (fedAllWords (wordsOf (after q (openedRun kind signs mode c) zeroRun)) xs)) opened
+      ∙ ap runIn (fed-words (openedRun kind signs mode c) xs)
+      ∙ run-back (fedAll (openedRun kind signs mode c) xs)
+
+  pub words-read : (d : List ℕ) → readWords (fedAllWords (openedWords kind signs mode c) xs) d
+      ≡ after (readAnswer (fedAll (openedRun kind signs mode c) xs) (length d)) (usedOf (fedAll (openedRun kind signs mode c) xs)) d
+  words-read d = ap (λ (r : Run). after (readAnswer r (length d)) (usedOf r) d) words-hold
+
+-- The answer's word: number and detail are its halves, as WZ_NUMBER and WZ_DETAIL take them,
+pub code-number : (n d : ℕ) → n < 2 ^ 32 → codeOf {X = Unit {0}} (refusal n d) % 2 ^ 32 ≡ n
+code-number n d h = omega arith
+
+pub code-detail : (n d : ℕ) → n < 2 ^ 32 → codeOf {X = Unit {0}} (refusal n d) / 2 ^ 32 ≡ d
+code-detail n d h = omega arith
+
+-- and it is 0 exactly where the call was accepted.
+number-pos : (x : Refusal) → 0 < numberOf x
+number-pos UnknownKind = omega arith
+number-pos UnknownRole = omega arith
+number-pos NotArithmetic = omega arith
+number-pos BadSelectors = omega arith
+number-pos (WrongLength buffer) = omega arith
+number-pos Outside = omega arith
+number-pos (TooWide index) = omega arith
+number-pos (BadScale selector) = omega arith
+number-pos RunFull = omega arith
+number-pos BadRun = omega arith
+
+pub code-accepted : (v : Verdict) → (codeOf (told v) ≡ 0) ↔ (v ≡ Accepted)
+code-accepted Accepted = (λ e. refl, λ e. refl)
+code-accepted (Refused x) = (λ e. absurd (omega (arith, number-pos x)), λ e. absurd (let z : _≡_ {A = ℕ} 0 1 = cc in omega arith))
