@@ -3,7 +3,7 @@
 -- a `requires`; here every answer is defined for all numbers, lists and runs. Assumes nothing.
 use mathlib.Core.Path.{_≡_, refl, sym, ap, ap₂, _∙_}
 use mathlib.Core.Bool.{true, not, _&&_, _||_}
-use mathlib.Core.Logic.{_↔_, _≢_, _⊎_, inl, inr}
+use mathlib.Core.Logic.{_↔_, _≢_, _⊎_}
 use mathlib.Core.List.{List}
 use Prim.Native.Nat.{ℕ, _^_, _<_, _≤_}
 use native.Mathlib.Omega.{arith}
@@ -37,14 +37,6 @@ use Rattle.promises.specs.Calls.{Call, unpack, pack, readRecord, writeRe
 use Rattle.promises.specs.Order.{first, Gives, NoneHolds, InWords, acceptance, _before_}
 use Rattle.promises.specs.Table.{placeLinks, findLinks, links, placeLines, findLines, lines}
 use Rattle.promises.proofs.Words.{less, at-most, equal, unless, both, either, any-of, outside, some-wide, wide-index, refused-exactly, given-exactly}
-
-answered : (q : Answer (Unit {0})) → (q ≡ given tt) ⊎ ((n : ℕ) × (d : ℕ) × (q ≡ refusal n d))
-answered (given x) = inl refl
-answered (refusal n d) = inr (n, d, refl)
-
--- 'Every call comes back': it is accepted, or it is refused with a number and a detail.
-pub comes-back : (c : Call) → (answer c ≡ given tt) ⊎ ((n : ℕ) × (d : ℕ) × (answer c ≡ refusal n d))
-comes-back c = answered (answer c)
 
 -- 'a refused call writes no word anywhere, and a refused run comes back as it went in': whatever a call that meets its contract leaves where it
 -- is refused is what went in. A refused opening, into which no run went, leaves the run that is 0 throughout, as document 01 asks.

@@ -4,7 +4,7 @@ use mathlib.Core.Path.{_≡_, refl, sym, ap, subst, _∙_}
 use mathlib.Core.Logic.{_↔_, _≢_}
 use mathlib.Core.List.{List}
 use Prim.Native.Nat.{ℕ, _+_, _*_, _/_, _%_, _^_, _<_, _≤_}
-use native.Mathlib.Nat.{mul-le-mul-left}
+use native.Mathlib.Nat.{mul-le-mul-left, mod-lt, div-add-mod', div-lt-iff-lt-mul}
 use native.Mathlib.Omega.{arith}
 use borrow.Author.Tests.{ne-eqb}
 use lib.IntN.{pos, _+ℤ_, _*ℤ_}
@@ -12,21 +12,26 @@ use lib.ListN.{length, getD}
 use Rattle.laws.specs.Bits.{combine, onesIn}
 use Rattle.laws.specs.Integers.{value, sumZ, int32, clamp}
 use Rattle.laws.specs.Fields.{field}
-use Rattle.laws.specs.Lists.{tab}
+use Rattle.laws.specs.Lists.{tab, blocks}
+use Rattle.laws.proofs.Lists.{is-tab}
 use Rattle.laws.specs.Totals.{Wraps}
 use Rattle.kinds.specs.Kinds.{kindOf, entryOf, roleOf, rows, columns, bits, words, elements}
 use Rattle.kinds.specs.Places.{placeOf}
 use Rattle.kinds.specs.Refusals.{given}
 use Rattle.kinds.specs.Answers.{placeAnswer, findAnswer}
-use Rattle.kinds.specs.Rule.{elementsOf}
-use Rattle.kinds.proofs.Table.{Legal, layoutAt, elements-are, bits-are, words-are, sane}
+use Rattle.kinds.specs.Rule.{elementsOf, holderOf}
+use Rattle.kinds.proofs.Answers.{place-is, rule-placed}
+use Rattle.kinds.proofs.Table.{Legal, layoutAt, elements-are, rows-are, columns-are, bits-are, words-are, sane}
 use Rattle.kinds.proofs.Promises as places
 use Rattle.warp.specs.Buffers.{elementAt, elementIn, unpackedOf, packedOf, wordsNeeded, entriesNeeded}
 use Rattle.warp.proofs.Elements as warp
+use Rattle.warp.proofs.Placed.{entries-needed}
+use Rattle.warp.proofs.Places.{columns-pos}
+use Rattle.warp.proofs.Round.{lane-in, element-in, place-back, unpacked-length}
 use Rattle.unpack.proofs.Promises as unpacking
 use Rattle.pack.specs.Answers.{packAnswer}
 use Rattle.pack.proofs.Promises as packing
-use Rattle.step.specs.Step.{entryIn, depth, half, unsignedA, unsignedB, products, combinedBits, added, resultAt, stepped}
+use Rattle.step.specs.Step.{entryIn, depth, half, unsignedA, unsignedB, products, combinedBits, added, resultAt, results, stepped}
 use Rattle.cell.specs.Limits.{cellOf}
 use Rattle.step.specs.Answers.{Ready, stepAnswer}
 use Rattle.step.proofs.Promises as steps
@@ -43,6 +48,26 @@ one-to-one = places.one-to-one
 
 legal : (k r : ℕ) → 1 ≤ k → k ≤ 10 → r ≤ 2 → Legal k r
 legal k r low high role = record { low = low; high = high; role = role }
+
+-- so that each row and column of the matrix is the place of one lane and element, and of no other.
+pub exactly-one : (k r : ℕ) → 1 ≤ k → k ≤ 10 → r ≤ 2 → (row column : ℕ) → row < rows (entryOf k) (roleOf r) → column < columns (entryOf k) (roleOf r)
+    → (z : ℕ × ℕ) × (placeAnswer k r (z .0) (z .1) ≡ given (row, column)) × ((lane i : ℕ) → placeAnswer k r lane i ≡ given (row, column) → (lane, i) ≡ z)
+exactly-one k r low high role row column hr hc =
+    let ok = legal k r low high role in
+    let f = layoutAt k r in
+    let w = sane k r ok in
+    let hr′ = subst (λ (n : ℕ). row < n) (rows-are k r ok) hr in
+    let hc′ = subst (λ (n : ℕ). column < n) (columns-are k r ok) hc in
+    let z = holderOf f (row, column) in
+    let there : placeAnswer k r (z .0) (z .1) ≡ given (row, column)
+    = sym (place-is k r ok (z .0) (z .1)) ∙ rule-placed f (z .0) (z .1) (lane-in f w row column hr′ hc′) (element-in f w row column hr′ hc′) ∙ ap given (place-back f w row column hr′ hc′) in
+    (z, there, λ lane i e. only-one k r row column (lane, i) z e there)
+  where
+    only-one : (k r row column : ℕ) (y z : ℕ × ℕ) → placeAnswer k r (y .0) (y .1) ≡ given (row, column) → placeAnswer k r (z .0) (z .1) ≡ given (row, column) → y ≡ z
+    only-one k r row column y z e e′ =
+        let p = places.one-to-one k r (y .0) (y .1) row column .0 e in
+        let q = places.one-to-one k r (z .0) (z .1) row column .0 e′ in
+        cc
 
 -- the elements before and with i lie within the lane's words
 within : (k r i : ℕ) (ok : Legal k r) → i < elements (entryOf k) (roleOf r) → layoutAt k r .bits * (i + 1) ≤ 32 * layoutAt k r .words
@@ -112,6 +137,22 @@ pack-unpack k r m ws a = packing.pack-unpack k r m (length ws) a
 pub unpack-pack : (k r : ℕ) → 1 ≤ k → k ≤ 10 → r ≤ 2 → (ws : List ℕ) → length ws ≡ wordsNeeded k r → ((x : ℕ) → x < length ws → getD ws x 0 < 2 ^ 32)
     → packedOf k r (unpackedOf k r ws) ≡ ws
 unpack-pack k r low high role ws n fit = packing.unpack-pack k r (legal k r low high role) ws n fit
+
+-- 'every .. step': the words of D as a whole. No other words of D's length have the step's result at every row and column.
+pub stepped-only : (k signs mode : ℕ) → 1 ≤ k → k ≤ 5 → (a b c ws : List ℕ) → length ws ≡ wordsNeeded k 2 → ((x : ℕ) → x < length ws → getD ws x 0 < 2 ^ 32)
+    → ((row column : ℕ) → row < rows (entryOf k) (roleOf 2) → column < columns (entryOf k) (roleOf 2) → entryIn k 2 ws row column ≡ resultAt k signs mode a b c row column)
+    → ws ≡ stepped k signs mode a b c
+unfolding entryIn results stepped
+stepped-only k signs mode low high a b c ws n fit at =
+    let ok = legal k 2 low (omega arith) (omega arith) in
+    let m = rows (entryOf k) (roleOf 2) in
+    let w = columns (entryOf k) (roleOf 2) in
+    let size : length (unpackedOf k 2 ws) ≡ m * w = unpacked-length (layoutAt k 2) (sane k 2 ok) ws ∙ entries-needed k 2 ok in
+    let some : 0 < w = subst (λ (z : ℕ). 0 < z) (sym (columns-are k 2 ok)) (columns-pos (layoutAt k 2) (sane k 2 ok)) in
+    sym (unpack-pack k 2 low (omega arith) (omega arith) ws n fit)
+    ∙ ap (packedOf k 2)
+    (is-tab (m * w) (blocks w (resultAt k signs mode a b c)) (unpackedOf k 2 ws) 0 size
+    (λ x l. ap (λ (z : ℕ). getD (unpackedOf k 2 ws) z 0) (sym (div-add-mod' x w)) ∙ at (x / w) (x % w) (div-lt-iff-lt-mul some .1 l) (mod-lt x some)))
 
 -- 'integer step': 'D at (r, c) is C at (r, c) plus the sum over k of A(r, k) times B(k, c)', read by the sign selector. A, B, C and D are warp
 -- buffers; entryIn is the entry of a buffer's matrix.

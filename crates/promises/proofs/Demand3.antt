@@ -2,7 +2,7 @@
 -- sum is the signed 32-bit number congruent to start plus all exact products modulo 2^32, in every order; with saturation, where no contribution
 -- to a place is negative or none is positive, the exact total clamped, in every order; otherwise the total clamped after each block in the order
 -- fed.' Every order is every permutation of the list; Wraps is congruence modulo 2^32. Assumes nothing.
-use mathlib.Core.Path.{_≡_, refl, sym, ap, subst, _∙_}
+use mathlib.Core.Path.{_≡_, refl, sym, ap, ap₂, subst, _∙_}
 use mathlib.Core.Logic.{_↔_, _⊎_}
 use mathlib.Core.List.{List, List·Permᴰ}
 use Prim.Native.Nat.{ℕ, _^_, _<_, _≤_}
@@ -16,14 +16,14 @@ use Rattle.laws.specs.Lists.{tab}
 use Rattle.laws.specs.Totals.{total, clampedEach, NoneNegative, NonePositive, Wraps}
 use Rattle.laws.proofs.Integers.{wraps-only}
 use Rattle.kinds.specs.Kinds.{entryOf, roleOf, rows, columns}
-use Rattle.kinds.specs.Refusals.{given, refusal}
+use Rattle.kinds.specs.Refusals.{Answer, given, refusal, after}
 use Rattle.step.specs.Step.{entryIn, depth, half, unsignedA, unsignedB, products, combinedBits, added}
 use Rattle.step.specs.Answers.{Ready}
 use Rattle.step.proofs.Matrices.{entry-lt}
 use Rattle.run.specs.declared.Run.{Run}
 use Rattle.run.specs.Runs.{zeros, withUsed, usedOf, openedRun}
-use Rattle.run.specs.Answers.{openAnswer, feedAnswer}
-use Rattle.run.specs.Blocks.{Block, fedAll, AllAccepted, contributions, sumAt}
+use Rattle.run.specs.Answers.{openAnswer, feedAnswer, readAnswer}
+use Rattle.run.specs.Blocks.{Block, fedAll, AllAccepted, acceptedOf, contributions, sumAt}
 use Rattle.run.proofs.Laws.{open-accepted}
 use Rattle.run.proofs.Demand.{fed-kept}
 use Rattle.run.proofs.Promises as runs
@@ -58,6 +58,26 @@ module _ (k signs mode : ℕ) (c : List ℕ) (opened : openAnswer k signs mode (
   -- The number in the run is the number of blocks,
   pub counted : (xs : List Block) → length xs ≤ 4096 → AllSized k xs → fedAll (openedRun k signs mode c) xs .blocks ≡ length xs
   counted xs n s = runs.counted k signs mode c opened xs (accepted-all xs .1 (n, s))
+
+  -- also where refused feeds stand between: the run is that of the accepted ones alone, of which the three sentences below speak, and the number is how
+  -- many they are.
+  pub refused-between : (xs : List Block) → fedAll (openedRun k signs mode c) xs ≡ fedAll (openedRun k signs mode c) (acceptedOf (openedRun k signs mode c) xs)
+  refused-between xs = runs.fed-accepted (openedRun k signs mode c) xs
+
+  pub accepted-between : (xs : List Block) → (length (acceptedOf (openedRun k signs mode c) xs) ≤ 4096) × AllSized k (acceptedOf (openedRun k signs mode c) xs)
+  accepted-between xs = accepted-all (acceptedOf (openedRun k signs mode c) xs) .0 (runs.accepted-of (openedRun k signs mode c) xs)
+
+  pub counted-between : (xs : List Block) → fedAll (openedRun k signs mode c) xs .blocks ≡ length (acceptedOf (openedRun k signs mode c) xs)
+  counted-between xs =
+      let a = accepted-between xs in
+      ap (λ (r : Run). r .blocks) (refused-between xs) ∙ counted (acceptedOf (openedRun k signs mode c) xs) (a .0) (a .1)
+
+  -- its kind stays that of the opening,
+  kind-kept : (xs : List Block) → fedAll (openedRun k signs mode c) xs .kind .0 ≡ k
+  unfolding openedRun
+  kind-kept xs =
+      ap (λ (r : Run). r .kind .0) (runs.fed-accepted (openedRun k signs mode c) xs)
+      ∙ ap (λ (r : Run). r .kind .0) (fed-kept k signs mode ready 0 (withUsed c zeros) (acceptedOf (openedRun k signs mode c) xs) (runs.accepted-of (openedRun k signs mode c) xs) .1)
 
   -- and after 4,096 blocks every further one is refused 9.
   pub no-more : (xs : List Block) → length xs ≡ 4096 → AllSized k xs → (a b : List ℕ) → feedAnswer (fedAll (openedRun k signs mode c) xs) (length a) (length b) ≡ refusal 9 0
@@ -99,3 +119,12 @@ module _ (k signs mode : ℕ) (c : List ℕ) (opened : openAnswer k signs mode (
     pub clamped-each : 2 ≤ k → mode ≡ 1 → (xs : List Block) → length xs ≤ 4096 → AllSized k xs
         → sumAt (fedAll (openedRun k signs mode c) xs) row column ≡ clampedEach (int32 (entryIn k 2 c row column)) (contributions k signs mode row column xs)
     clamped-each two one xs n s = runs.clamped-each k signs mode c opened row column hr hc two one xs (accepted-all xs .1 (n, s))
+
+    -- An accepted read leaves D with these sums, whatever was fed.
+    pub read-sums : (xs : List Block) (d : List ℕ) → readAnswer (fedAll (openedRun k signs mode c) xs) (length d) ≡ given tt
+        → int32 (entryIn k 2 (after (readAnswer (fedAll (openedRun k signs mode c) xs) (length d)) (usedOf (fedAll (openedRun k signs mode c) xs)) d) row column)
+        ≡ sumAt (fedAll (openedRun k signs mode c) xs) row column
+    unfolding sumAt
+    read-sums xs d e =
+        let run = fedAll (openedRun k signs mode c) xs in
+        ap₂ (λ (q : Answer (Unit {0})) (kind : ℕ). int32 (entryIn kind 2 (after q (usedOf run) d) row column)) e (sym (kind-kept xs))

@@ -14,7 +14,7 @@ use Rattle.laws.specs.Choice.{if_then_else_, _=?_}
 use Rattle.laws.specs.Integers.{int32, clamp}
 use Rattle.laws.specs.Totals.{total, wrappedBy, clampedBy, clampedEach, NoneNegative, NonePositive, Wraps}
 use Rattle.laws.proofs.Totals.{fed-wraps, fed-up, fed-down, fed-clamped}
-use Rattle.kinds.specs.Refusals.{given, refusal}
+use Rattle.kinds.specs.Refusals.{Answer, given, refusal, after}
 use Rattle.kinds.proofs.Promises.{Only, only}
 use Rattle.warp.specs.Buffers.{wordsNeeded}
 use Rattle.step.specs.Step.{entryIn, depth, limit}
@@ -25,7 +25,7 @@ use Rattle.step.proofs.Promises.{rowsD, columnsD, same-added}
 use Rattle.run.specs.declared.Run.{Run}
 use Rattle.run.specs.Runs.{runOf, zeros, withUsed, usedOf, openedRun, zeroRun, fedRun}
 use Rattle.run.specs.Answers.{openAnswer, feedAnswer, readAnswer}
-use Rattle.run.specs.Blocks.{Block, fedAll, AllAccepted, contributions, sumAt}
+use Rattle.run.specs.Blocks.{Block, fedBy, fedAll, AllAccepted, kept, acceptedOf, contributions, sumAt}
 use Rattle.run.proofs.Laws.{open-accepted}
 use Rattle.run.proofs.Demand.{fedCell, wraps-each, clamps-each, fed-at, fed-kept, accepted-order, added-perm}
 
@@ -120,6 +120,28 @@ module _ (k signs mode : ℕ) (c : List ℕ) (accepted : openAnswer k signs mode
   no-more xs h n a b =
       let s = fed-kept k signs mode ok 0 (withUsed c zeros) xs h in
       ap (λ (r : Run). feedAnswer r a b) (s .1) ∙ full-at (0 + length xs) (s .0) a b (omega arith)
+
+-- 'A refused feed isn't counted', and changes nothing: whatever was fed, the run is that of the accepted blocks alone,
+fed-kept-one : (run : Run) (x : Block) (q : Answer (Unit {0})) → feedAnswer run (length (x .a)) (length (x .b)) ≡ q → (ys : List Block) → fedAll (fedBy run x) ys ≡ fedAll run (kept q x ys)
+unfolding fedAll
+fed-kept-one run x (given u) e ys = refl
+fed-kept-one run x (refusal n d) e ys = ap (λ (r : Run). fedAll r ys) (ap (λ (q : Answer (Unit {0})). after q (fedRun run (x .a) (x .b)) run) e)
+
+pub fed-accepted : (run : Run) (xs : List Block) → fedAll run xs ≡ fedAll run (acceptedOf run xs)
+unfolding fedAll acceptedOf
+fed-accepted run [] = refl
+fed-accepted run (x ∷ xs) = fed-accepted (fedBy run x) xs ∙ fed-kept-one run x (feedAnswer run (length (x .a)) (length (x .b))) refl (acceptedOf (fedBy run x) xs)
+
+-- each of which was accepted.
+all-kept : (run : Run) (x : Block) (q : Answer (Unit {0})) → feedAnswer run (length (x .a)) (length (x .b)) ≡ q → (ys : List Block) → AllAccepted (fedBy run x) ys → AllAccepted run (kept q x ys)
+unfolding AllAccepted
+all-kept run x (given u) e ys a = (e, a)
+all-kept run x (refusal n d) e ys a = subst (λ (r : Run). AllAccepted r ys) (ap (λ (q : Answer (Unit {0})). after q (fedRun run (x .a) (x .b)) run) e) a
+
+pub accepted-of : (run : Run) (xs : List Block) → AllAccepted run (acceptedOf run xs)
+unfolding AllAccepted acceptedOf
+accepted-of run [] = tt
+accepted-of run (x ∷ xs) = all-kept run x (feedAnswer run (length (x .a)) (length (x .b))) refl (acceptedOf (fedBy run x) xs) (accepted-of (fedBy run x) xs)
 
 -- 'No boat reaches another boat's row', over whole runs: two runs opened alike in row r, fed blocks that agree in row r of A and in B, agree in row r at
 -- the end.

@@ -5,7 +5,7 @@ use mathlib.Core.List.{List, [], _∷_}
 use lib.IntN.{ℤ}
 use lib.ListN.{length}
 use Rattle.laws.specs.Integers.{int32}
-use Rattle.kinds.specs.Refusals.{given, after}
+use Rattle.kinds.specs.Refusals.{Answer, given, refusal, after}
 use Rattle.step.specs.Step.{entryIn, added}
 use Rattle.run.specs.declared.Run.{Run}
 use Rattle.run.specs.Runs.{usedOf, fedRun}
@@ -29,6 +29,15 @@ fedAll run (x ∷ xs) = fedAll (fedBy run x) xs
 unfoldable pub AllAccepted : Run → List Block → Type 0
 AllAccepted run [] = Unit {0}
 AllAccepted run (x ∷ xs) = (feedAnswer run (length (x .a)) (length (x .b)) ≡ given tt) × AllAccepted (fedBy run x) xs
+
+-- those of them that were accepted, in the order fed
+abbrev pub kept : Answer (Unit {0}) → Block → List Block → List Block
+kept (given _) x xs = x ∷ xs
+kept (refusal number detail) x xs = xs
+
+unfoldable pub acceptedOf : Run → List Block → List Block
+acceptedOf run [] = []
+acceptedOf run (x ∷ xs) = kept (feedAnswer run (length (x .a)) (length (x .b))) x (acceptedOf (fedBy run x) xs)
 
 -- what each block adds at a place: the exact products, or the bit count
 unfoldable pub contributions : (kind signs mode row column : ℕ) → List Block → List ℤ
