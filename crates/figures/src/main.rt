@@ -2,6 +2,8 @@
 ghost use mathlib.Core.Path.{_≡_};
 ghost use Prim.Native.Nat.{ℕ, _<_, _≤_};
 ghost use lib.ListN.{length, getD};
+use answers::Refusal;
+use answers::Verdict;
 use kinds::Column;
 use kinds::Element;
 use kinds::Held;
@@ -9,11 +11,9 @@ use kinds::Kind;
 use kinds::Lane;
 use kinds::Mode;
 use kinds::Placed;
-use kinds::Refusal;
 use kinds::Role;
 use kinds::Row;
 use kinds::Signs;
-use kinds::Verdict;
 
 fn print_text(s: &[u8]) {
     io::write_all(1, s);

@@ -9,10 +9,11 @@ use Rattle.laws.proofs.Choice.{or-false, or-comm}
 use Rattle.kinds.specs.Kinds.{lanes, entryOf, kindOf, roleOf, rows, columns}
 use Rattle.kinds.specs.Places.{placeOf}
 use Rattle.kinds.specs.Rule.{elementsOf, majors, minors, turn, placeIn, holderIn, holderOf, Laid, major, minor, laneOf, elementOf}
-use Rattle.kinds.specs.Refusals.{Answer, given, refusal, refused, judged, numberOf, detailOf, noElement, noEntry}
+use Rattle.answers.specs.Refusals.{Answer, given, refusal, refused, numberOf, detailOf}
+use Rattle.kinds.specs.Refusals.{judged, noElement, noEntry}
 use Rattle.kinds.specs.Answers.{toldLayout, layoutAnswer, placeAnswer, findAnswer, placeBy, findBy}
 use Rattle.kinds.specs.declared.Layout.{Layout}
-use Rattle.kinds.specs.declared.Refusal.{Refusal}
+use Rattle.answers.specs.declared.Refusal.{Refusal}
 use Rattle.kinds.specs.declared.Known.{Known}
 use Rattle.kinds.specs.declared.Known.the-variants.{As, Refused as Known·Refused}
 use Rattle.kinds.proofs.Digits.{lane-back, element-back, major-back, minor-back, major-lt, minor-lt, lane-lt, element-lt}

@@ -8,7 +8,8 @@ use borrow.Author.Tests.{leb-true, le-leb, not-false}
 use Rattle.laws.specs.Choice.{if_then_else_, _≤?_}
 use Rattle.laws.proofs.Choice.{and-true}
 use Rattle.kinds.specs.Kinds.{kinds}
-use Rattle.kinds.specs.Refusals.{Answer, given, refusal, judged, noKind, noRole}
+use Rattle.answers.specs.Refusals.{Answer, given, refusal}
+use Rattle.kinds.specs.Refusals.{judged, noKind, noRole}
 use Rattle.kinds.proofs.Table.{Legal}
 
 module _ {X : Type 0} where

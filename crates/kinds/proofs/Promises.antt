@@ -1,18 +1,14 @@
 -- What document 01 and demand 2 promise of places, a sentence above its statement. Assumes nothing.
 use mathlib.Core.Path.{_≡_, refl, sym, ap, _∙_}
 use mathlib.Core.Logic.{_↔_}
-use mathlib.Core.List.{[], _∷_}
 use Prim.Native.Nat.{ℕ, _<_}
-use lib.ListN.{getD}
 use Rattle.kinds.specs.Kinds.{lanes, kindOf, entryOf, roleOf, elements}
 use Rattle.kinds.specs.Places.{placeOf}
 use Rattle.kinds.specs.Rule.{placeIn, turn}
-use Rattle.kinds.specs.Refusals.{Answer, given, refusal, told, after, numberOf, detailOf}
+use Rattle.answers.specs.Refusals.{Answer, given, refusal, told, after}
+use Rattle.answers.proofs.Refusals.{refusalOf, refusal-back, one-verdict}
 use Rattle.kinds.specs.Answers.{placeAnswer, findAnswer, toldPlace, toldHolder}
-use Rattle.kinds.specs.declared.Refusal.{Refusal}
-use Rattle.kinds.specs.declared.Refusal.the-variants.{UnknownKind, UnknownRole, NotArithmetic, BadSelectors, WrongLength, Outside, TooWide, BadScale, RunFull, BadRun}
-use Rattle.kinds.specs.declared.Verdict.{Verdict}
-use Rattle.kinds.specs.declared.Verdict.the-variants.{Accepted, Refused}
+use Rattle.answers.specs.declared.Verdict.{Verdict}
 use Rattle.kinds.specs.declared.Placed.{Placed}
 use Rattle.kinds.specs.declared.Placed.the-variants.{At, Refused as Placed·Refused}
 use Rattle.kinds.specs.declared.Held.{Held}
@@ -44,24 +40,6 @@ one-to-one k r l i x y = (there, back)
 pub one-rule : (k r l i : ℕ) → Legal k r → l < lanes → i < elements (entryOf k) (roleOf r) → placeOf (kindOf k) (roleOf r) l i ≡ placeIn (layoutAt k r) l i
 one-rule = whole-at
 
--- A refusal is its number and detail: no two of the enum have the same.
-refusalOf : ℕ → ℕ → Refusal
-refusalOf n d =
-    getD (UnknownKind ∷ UnknownKind ∷ UnknownRole ∷ NotArithmetic ∷ BadSelectors ∷ WrongLength d ∷ Outside ∷ TooWide d ∷ BadScale d ∷ RunFull ∷ BadRun ∷ []) n UnknownKind
-
-refusal-back : (f : Refusal) → refusalOf (numberOf f) (detailOf f) ≡ f
-unfolding refusalOf
-refusal-back UnknownKind = refl
-refusal-back UnknownRole = refl
-refusal-back NotArithmetic = refl
-refusal-back BadSelectors = refl
-refusal-back (WrongLength b) = refl
-refusal-back Outside = refl
-refusal-back (TooWide i) = refl
-refusal-back (BadScale s) = refl
-refusal-back RunFull = refl
-refusal-back BadRun = refl
-
 -- 'Show that no second answer satisfies it': two answers of place that meet its contract are equal, and two of the reverse question.
 placedOf : Answer (ℕ × ℕ) → Placed
 placedOf (given x) = At (record { 0 = x .0 }) (record { 0 = x .1 })
@@ -70,15 +48,6 @@ placedOf (refusal n d) = Placed·Refused (refusalOf n d)
 heldOf : Answer (ℕ × ℕ) → Held
 heldOf (given x) = By (record { 0 = x .0 }) (record { 0 = x .1 })
 heldOf (refusal n d) = Held·Refused (refusalOf n d)
-
-verdictOf : Answer (Unit {0}) → Verdict
-verdictOf (given x) = Accepted
-verdictOf (refusal n d) = Refused (refusalOf n d)
-
-verdict-back : (a : Verdict) → verdictOf (told a) ≡ a
-unfolding verdictOf
-verdict-back Accepted = refl
-verdict-back (Refused f) = ap Refused (refusal-back f)
 
 placed-back : (a : Placed) → placedOf (toldPlace a) ≡ a
 unfolding placedOf
@@ -96,11 +65,7 @@ one-place a b k r l i = one-answer toldPlace placedOf placed-back a b (placeAnsw
 pub one-holder : (a b : Held) (k r x y : ℕ) → toldHolder a ≡ findAnswer k r x y → toldHolder b ≡ findAnswer k r x y → a ≡ b
 one-holder a b k r x y = one-answer toldHolder heldOf held-back a b (findAnswer k r x y)
 
--- and two verdicts of any call that are told alike
-pub one-verdict : (a b : Verdict) (q : Answer (Unit {0})) → told a ≡ q → told b ≡ q → a ≡ b
-one-verdict = one-answer told verdictOf verdict-back
-
--- and with what stands in a buffer, or a run, on return. Every call but place and the reverse question is promised in this form: its answer is
+-- And a verdict with what stands in a buffer, or a run, on return. Every call but place and the reverse question is promised in this form: its answer is
 -- q; it leaves new where it accepts, and old, which it was given, where it refuses.
 module _ {B : Type 0} (q : Answer (Unit {0})) (new old : B) where
   pub record Meets (verdict : Verdict) (out : B) : Type 0 where

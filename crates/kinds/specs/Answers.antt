@@ -5,7 +5,8 @@ use Rattle.laws.specs.Choice.{if_then_else_, _≤?_}
 use Rattle.kinds.specs.Kinds.{lanes, entryOf, kindOf, roleOf}
 use Rattle.kinds.specs.Places.{placeOf}
 use Rattle.kinds.specs.Rule.{layoutOf, elementsOf, majors, minors, placeIn, holderIn, holderOf}
-use Rattle.kinds.specs.Refusals.{Answer, given, refusal, refused, judged, noElement, noEntry}
+use Rattle.answers.specs.Refusals.{Answer, given, refusal, refused}
+use Rattle.kinds.specs.Refusals.{judged, noElement, noEntry}
 use Rattle.kinds.specs.declared.Layout.{Layout}
 use Rattle.kinds.specs.declared.Known.{Known}
 use Rattle.kinds.specs.declared.Known.the-variants.{As, Refused as Known·Refused}

@@ -13,9 +13,9 @@ use Rattle.laws.specs.Choice.{if_then_else_, _≤?_, _<?_}
 use Rattle.laws.proofs.Choice.{or-false}
 use Rattle.kinds.specs.Kinds.{lanes}
 use Rattle.kinds.specs.Rule.{elementsOf, turn, placeIn, major, minor}
-use Rattle.kinds.specs.Refusals.{Answer, given, refusal, numberOf}
-use Rattle.kinds.specs.declared.Refusal.{Refusal}
-use Rattle.kinds.specs.declared.Refusal.the-variants.{UnknownKind, UnknownRole, NotArithmetic, BadSelectors, WrongLength, Outside, TooWide, BadScale, RunFull, BadRun}
+use Rattle.answers.specs.Refusals.{Answer, given, refusal, numberOf}
+use Rattle.answers.specs.declared.Refusal.{Refusal}
+use Rattle.answers.specs.declared.Refusal.the-variants.{UnknownKind, UnknownRole, NotArithmetic, BadSelectors, WrongLength, Outside, TooWide, BadScale, RunFull, BadRun}
 use Rattle.kinds.specs.Answers.{placeAnswer, placeBy}
 use Rattle.kinds.proofs.Digits.{major-lt, minor-lt}
 use Rattle.kinds.proofs.Table.{layoutAt, sane}

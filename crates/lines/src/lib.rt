@@ -3,7 +3,7 @@ ghost use mathlib.Core.List.{[], _∷_};
 ghost use mathlib.Core.Path.{_≡_};
 ghost use Prim.Native.Nat.{_+_, _*_, _/_, _<_, _≤_};
 ghost use lib.ListN.{length, take};
-ghost use Rattle.kinds.specs.Refusals.{given, refusal};
+ghost use Rattle.answers.specs.Refusals.{given, refusal};
 ghost use Rattle.kinds.specs.Answers.{placeAnswer};
 ghost use Rattle.lines.specs.Text.{decimal, lineOf, printed, Put};
 use kinds::Column;

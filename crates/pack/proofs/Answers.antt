@@ -8,7 +8,7 @@ use native.Mathlib.Omega.{arith}
 use borrow.Author.Tests.{lt-ltb, le-ltb, ltb-true}
 use lib.ListN.{length, getD}
 use Rattle.laws.specs.Choice.{if_then_else_, _<?_, _=?_}
-use Rattle.kinds.specs.Refusals.{given, refusal}
+use Rattle.answers.specs.Refusals.{given, refusal}
 use Rattle.kinds.proofs.Table.{Legal, layoutAt, bits-are}
 use Rattle.kinds.proofs.Judged.{judged-is}
 use Rattle.warp.specs.Buffers.{wordsNeeded, entriesNeeded, Fitting}

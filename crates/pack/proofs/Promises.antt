@@ -9,7 +9,7 @@ use lib.ListN.{length, getD}
 use Rattle.laws.specs.Choice.{_<?_, _=?_}
 use Rattle.kinds.specs.Kinds.{entryOf, roleOf, bits}
 use Rattle.kinds.specs.Rule.{columnsOf}
-use Rattle.kinds.specs.Refusals.{given}
+use Rattle.answers.specs.Refusals.{given}
 use Rattle.kinds.specs.Answers.{placeAnswer}
 use Rattle.kinds.proofs.Table.{Legal, layoutAt, bits-are}
 use Rattle.kinds.proofs.Judged.{passed, judged-given}

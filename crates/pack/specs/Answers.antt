@@ -6,7 +6,8 @@ use lib.ListN.{length}
 use Rattle.laws.specs.Choice.{if_then_else_, _<?_, _=?_}
 use Rattle.kinds.specs.Kinds.{lanes, entryOf, roleOf, bits}
 use Rattle.kinds.specs.Rule.{rowsOf, columnsOf}
-use Rattle.kinds.specs.Refusals.{Answer, given, refusal, judged}
+use Rattle.answers.specs.Refusals.{Answer, given, refusal}
+use Rattle.kinds.specs.Refusals.{judged}
 use Rattle.kinds.specs.declared.Layout.{Layout}
 use Rattle.warp.specs.Buffers.{wordsNeeded, entriesNeeded}
 

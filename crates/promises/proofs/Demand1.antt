@@ -12,10 +12,11 @@ use Rattle.laws.specs.Choice.{_<?_, _≤?_, _=?_}
 use Rattle.kinds.specs.Kinds.{kindOf, entryOf, roleOf, KnownRole, rows, columns, bits, elements}
 use Rattle.kinds.specs.Rule.{layoutOf, holderOf}
 use Rattle.kinds.specs.Places.{placeOf}
-use Rattle.kinds.specs.Refusals.{Answer, given, refusal, told, after, noKind, noRole, noElement, noEntry}
+use Rattle.answers.specs.Refusals.{Answer, given, refusal, told, after}
+use Rattle.kinds.specs.Refusals.{noKind, noRole, noElement, noEntry}
 use Rattle.kinds.specs.Answers.{placeAnswer, findAnswer}
 use Rattle.kinds.specs.declared.Entry.{Entry}
-use Rattle.kinds.specs.declared.Verdict.{Verdict}
+use Rattle.answers.specs.declared.Verdict.{Verdict}
 use Rattle.kinds.proofs.Promises.{Meets, Only, only}
 use Rattle.warp.specs.Buffers.{wordsNeeded, entriesNeeded}
 use Rattle.unpack.specs.Answers.{unpackAnswer}

@@ -17,7 +17,7 @@ use Rattle.laws.proofs.Lists.{is-tab}
 use Rattle.laws.specs.Totals.{Wraps}
 use Rattle.kinds.specs.Kinds.{kindOf, entryOf, roleOf, rows, columns, bits, words, elements}
 use Rattle.kinds.specs.Places.{placeOf}
-use Rattle.kinds.specs.Refusals.{given}
+use Rattle.answers.specs.Refusals.{given}
 use Rattle.kinds.specs.Answers.{placeAnswer, findAnswer}
 use Rattle.kinds.specs.Rule.{elementsOf, holderOf}
 use Rattle.kinds.proofs.Answers.{place-is, rule-placed}

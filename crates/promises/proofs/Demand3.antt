@@ -16,7 +16,7 @@ use Rattle.laws.specs.Lists.{tab}
 use Rattle.laws.specs.Totals.{total, clampedEach, NoneNegative, NonePositive, Wraps}
 use Rattle.laws.proofs.Integers.{wraps-only}
 use Rattle.kinds.specs.Kinds.{entryOf, roleOf, rows, columns}
-use Rattle.kinds.specs.Refusals.{Answer, given, refusal, after}
+use Rattle.answers.specs.Refusals.{Answer, given, refusal, after}
 use Rattle.step.specs.Step.{entryIn, depth, half, unsignedA, unsignedB, products, combinedBits, added}
 use Rattle.step.specs.Answers.{Ready}
 use Rattle.step.proofs.Matrices.{entry-lt}

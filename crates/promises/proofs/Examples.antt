@@ -7,7 +7,7 @@ use native.Mathlib.Omega.{arith}
 use lib.ListN.{length}
 use Rattle.kinds.specs.Kinds.{kindOf, entryOf, roleOf, elements}
 use Rattle.kinds.specs.Places.{placeOf}
-use Rattle.kinds.specs.Refusals.{given, refusal}
+use Rattle.answers.specs.Refusals.{given, refusal}
 use Rattle.kinds.specs.Answers.{placeAnswer}
 use Rattle.warp.specs.Buffers.{wordsNeeded}
 use Rattle.step.specs.Answers.{Ready}

@@ -10,7 +10,7 @@ use lib.ListN.{length, getD}
 use native.Mathlib.Omega.{arith}
 use borrow.Author.Tests.{ltb-true, ltb-false, lt-ltb, leb-true, leb-false, le-leb, lt-leb, eqb-true, eq-eqb, not-true, not-false}
 use Rattle.laws.specs.Choice.{if_then_else_, _<?_, _≤?_, _=?_}
-use Rattle.kinds.specs.Refusals.{Answer, given, refusal}
+use Rattle.answers.specs.Refusals.{Answer, given, refusal}
 use Rattle.kinds.proofs.Judged.{never}
 use Rattle.pack.specs.Answers.{firstWide}
 use Rattle.pack.proofs.Answers.{first-at, first-fits, first-le}

@@ -4,7 +4,7 @@ use Prim.Native.Nat.{ℕ}
 use mathlib.Core.List.{List}
 use lib.IntN.{ℤ}
 use lib.ListN.{length}
-use Rattle.kinds.specs.Refusals.{Answer}
+use Rattle.answers.specs.Refusals.{Answer}
 use Rattle.warp.specs.Buffers.{unpackedOf, packedOf}
 use Rattle.unpack.specs.Answers.{unpackAnswer}
 use Rattle.pack.specs.Answers.{packAnswer}

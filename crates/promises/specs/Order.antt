@@ -5,7 +5,7 @@ use mathlib.Core.Bool.{Bool, true}
 use mathlib.Core.Logic.{_↔_, _⊎_}
 use mathlib.Core.List.{List, [], _∷_}
 use Rattle.laws.specs.Choice.{if_then_else_}
-use Rattle.kinds.specs.Refusals.{Answer, refusal}
+use Rattle.answers.specs.Refusals.{Answer, refusal}
 
 -- a test that computes, and the refusal that is given where it holds
 pub record Link : Type 0 where

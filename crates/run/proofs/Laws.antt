@@ -12,10 +12,11 @@ use Rattle.laws.proofs.Choice.{and-true, or-false}
 use Rattle.laws.proofs.Every.{all-at}
 use Rattle.laws.proofs.Lists.{length-tab}
 use Rattle.kinds.specs.Kinds.{kinds, lanes, words, roleC}
-use Rattle.kinds.specs.Refusals.{Answer, given, refusal, numberOf, detailOf, told, after, noKind}
-use Rattle.kinds.specs.declared.Refusal.{Refusal}
-use Rattle.kinds.specs.declared.Verdict.{Verdict}
-use Rattle.kinds.specs.declared.Verdict.the-variants.{Accepted, Refused}
+use Rattle.answers.specs.Refusals.{Answer, given, refusal, numberOf, detailOf, told, after}
+use Rattle.kinds.specs.Refusals.{noKind}
+use Rattle.answers.specs.declared.Refusal.{Refusal}
+use Rattle.answers.specs.declared.Verdict.{Verdict}
+use Rattle.answers.specs.declared.Verdict.the-variants.{Accepted, Refused}
 use Rattle.kinds.proofs.Table.{line}
 use Rattle.kinds.proofs.Judged.{never, passed, carried}
 use Rattle.warp.specs.Buffers.{wordsNeeded}

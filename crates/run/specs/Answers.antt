@@ -2,7 +2,7 @@
 use Prim.Native.Nat.{ℕ}
 use mathlib.Core.Bool.{Bool, not, _&&_, _||_}
 use Rattle.laws.specs.Choice.{if_then_else_, _<?_, _≤?_, _=?_}
-use Rattle.kinds.specs.Refusals.{Answer, given, refusal}
+use Rattle.answers.specs.Refusals.{Answer, given, refusal}
 use Rattle.warp.specs.Buffers.{wordsNeeded}
 use Rattle.step.specs.Answers.{noSelectors, selected}
 use Rattle.run.specs.declared.Run.{Run}

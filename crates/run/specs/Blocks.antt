@@ -5,7 +5,7 @@ use mathlib.Core.List.{List, [], _∷_}
 use lib.IntN.{ℤ}
 use lib.ListN.{length}
 use Rattle.laws.specs.Integers.{int32}
-use Rattle.kinds.specs.Refusals.{Answer, given, refusal, after}
+use Rattle.answers.specs.Refusals.{Answer, given, refusal, after}
 use Rattle.step.specs.Step.{entryIn, added}
 use Rattle.run.specs.declared.Run.{Run}
 use Rattle.run.specs.Runs.{usedOf, fedRun}

@@ -3,16 +3,16 @@ ghost use mathlib.Core.Path.{_≡_};
 ghost use Prim.Native.Nat.{_<_};
 ghost use lib.ListN.{length};
 ghost use Rattle.laws.specs.Choice.{if_then_else_};
-ghost use Rattle.kinds.specs.Refusals.{told, after, given, refusal};
+ghost use Rattle.answers.specs.Refusals.{told, after, given, refusal};
 ghost use Rattle.warp.specs.Buffers.{wordsNeeded};
 ghost use Rattle.step.specs.Answers.{Ready};
 ghost use Rattle.run.specs.Runs.{openedRun, zeroRun, usedOf, fedRun};
 ghost use Rattle.run.specs.Answers.{maxBlocks, noRun, openAnswer, feedAnswer, readAnswer};
+use answers::Refusal;
+use answers::Verdict;
 use kinds::Kind;
 use kinds::Mode;
-use kinds::Refusal;
 use kinds::Signs;
-use kinds::Verdict;
 use warp::Lengths;
 
 pub struct Run {

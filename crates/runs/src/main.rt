@@ -1,8 +1,8 @@
 // Shows runs: document 01's figures over 4,096 blocks, a clamped run in two orders, a run made up by hand, and each refusal.
+use answers::Verdict;
 use kinds::Kind;
 use kinds::Mode;
 use kinds::Signs;
-use kinds::Verdict;
 use run::Run;
 
 // Kind 3: every element -128, every element 127, and C 100 below the limit.

@@ -7,7 +7,7 @@ use native.Mathlib.Omega.{arith}
 use borrow.Author.Tests.{leb-true, eqb-true, ne-eqb, not-false}
 use Rattle.laws.specs.Choice.{if_then_else_, _≤?_, _=?_}
 use Rattle.laws.proofs.Choice.{and-true}
-use Rattle.kinds.specs.Refusals.{given}
+use Rattle.answers.specs.Refusals.{given}
 use Rattle.kinds.proofs.Judged.{passed}
 use Rattle.scale.specs.Bytes.{legalSize, legalSide, legalByteId, legalThreadId, metadataLength, outputLength}
 use Rattle.scale.specs.Answers.{scaleAnswer}

@@ -8,7 +8,7 @@ use lib.ListN.{length, getD, take}
 use Rattle.laws.specs.Lists.{tab}
 use Rattle.laws.proofs.Lists.{length-tab, getD-tab}
 use Rattle.kinds.specs.Kinds.{lanes}
-use Rattle.kinds.specs.Refusals.{refusal}
+use Rattle.answers.specs.Refusals.{refusal}
 use Rattle.kinds.proofs.Promises.{Only, only}
 use Rattle.scale.specs.Bytes.{legalThreadId, takes, chosenLanes, byteOf, chosenBytes, exponent, scaled, outputLength}
 use Rattle.scale.specs.Answers.{scaleAnswer}

@@ -2,7 +2,7 @@
 use Prim.Native.Nat.{ℕ}
 use mathlib.Core.Bool.{not}
 use Rattle.laws.specs.Choice.{if_then_else_, _=?_}
-use Rattle.kinds.specs.Refusals.{Answer, given, refusal}
+use Rattle.answers.specs.Refusals.{Answer, given, refusal}
 use Rattle.scale.specs.Bytes.{legalSize, legalSide, legalByteId, legalThreadId, metadataLength, outputLength}
 
 unfoldable pub scaleAnswer : (size side byteId threadId metadata output : ℕ) → Answer (Unit {0})

@@ -4,14 +4,14 @@ ghost use mathlib.Core.Bool.{true};
 ghost use Prim.Native.Nat.{_+_, _<_, _≤_};
 ghost use lib.ListN.{length, getD};
 ghost use Rattle.kinds.specs.Kinds.{lanes};
-ghost use Rattle.kinds.specs.Refusals.{told, after};
+ghost use Rattle.answers.specs.Refusals.{told, after};
 ghost use Rattle.laws.specs.Lists.{fills};
 ghost use Rattle.scale.specs.Bytes.{legalSize, legalSide, legalByteId, legalThreadId, chosenLanes, byteOf, exponent, scaled, outputLength};
 ghost use Rattle.scale.specs.Answers.{scaleAnswer};
 ghost use Rattle.scale.specs.Legal.{Legal};
+use answers::Refusal;
+use answers::Verdict;
 use kinds::Lane;
-use kinds::Refusal;
-use kinds::Verdict;
 
 // Each selector has its own type, so that none stands in for another. Any u32 may stand in it: what is illegal is refused.
 pub struct Size(pub u32);

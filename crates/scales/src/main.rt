@@ -1,5 +1,5 @@
 // Shows what `scale` answers: the figures of document 01, whole outputs of each side and size, and each refusal.
-use kinds::Verdict;
+use answers::Verdict;
 use scale::ByteId;
 use scale::Side;
 use scale::Size;

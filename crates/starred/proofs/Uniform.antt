@@ -18,7 +18,7 @@ use Rattle.laws.proofs.Fields.{joined-ext}
 use Rattle.laws.proofs.Integers.{sumZ-cong}
 use Rattle.laws.proofs.Lists.{length-tab, getD-tab, tab-ext}
 use Rattle.kinds.specs.Kinds.{lanes, entryOf, roleOf, rows, columns}
-use Rattle.kinds.specs.Refusals.{given}
+use Rattle.answers.specs.Refusals.{given}
 use Rattle.kinds.specs.Rule.{elementsOf, rowsOf, columnsOf, holderOf}
 use Rattle.kinds.specs.declared.Layout.{Layout}
 use Rattle.kinds.proofs.Table.{Legal, layoutAt, sane, rows-are, columns-are, words-are}

@@ -7,7 +7,7 @@ use lib.ListN.{length}
 use Rattle.laws.specs.Integers.{int32}
 use Rattle.laws.specs.Lists.{tab}
 use Rattle.kinds.specs.Kinds.{entryOf, roleOf, rows, columns}
-use Rattle.kinds.specs.Refusals.{given}
+use Rattle.answers.specs.Refusals.{given}
 use Rattle.kinds.specs.Answers.{placeAnswer, findAnswer}
 use Rattle.warp.specs.Buffers.{wordsNeeded}
 use Rattle.step.specs.Step.{entryIn, stepped}

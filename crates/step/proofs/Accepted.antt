@@ -7,7 +7,8 @@ use borrow.Author.Tests.{leb-true, leb-false, ltb-false, eqb-true, eq-eqb, le-le
 use Rattle.laws.specs.Choice.{if_then_else_, _<?_, _≤?_, _=?_}
 use Rattle.laws.proofs.Choice.{and-true, and-on, and-off, or-false}
 use Rattle.kinds.specs.Kinds.{kinds}
-use Rattle.kinds.specs.Refusals.{Answer, given, refusal, noKind}
+use Rattle.answers.specs.Refusals.{Answer, given, refusal}
+use Rattle.kinds.specs.Refusals.{noKind}
 use Rattle.kinds.proofs.Judged.{never, passed, carried}
 use Rattle.warp.specs.Buffers.{wordsNeeded}
 use Rattle.step.specs.Step.{oneBit}

@@ -13,7 +13,7 @@ use Rattle.laws.proofs.Integers.{sumZ-cong, wraps, wraps-only, clamp-in, clamp-
 use Rattle.laws.proofs.Lists.{tab-ext}
 use Rattle.laws.proofs.Totals.{clamp-word}
 use Rattle.kinds.specs.Kinds.{entryOf, roleOf, rows, columns}
-use Rattle.kinds.specs.Refusals.{given}
+use Rattle.answers.specs.Refusals.{given}
 use Rattle.kinds.proofs.Table.{rows-are, columns-are}
 use Rattle.kinds.proofs.Promises.{Only, only}
 use Rattle.step.specs.Step.{entryIn, depth, half, unsignedA, unsignedB, products, combinedBits, oneBit, added, limit, resultAt, stepped}

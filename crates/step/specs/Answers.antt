@@ -3,7 +3,8 @@ use Prim.Native.Nat.{ℕ, _≤_}
 use mathlib.Core.Path.{_≡_}
 use mathlib.Core.Bool.{Bool, not, _&&_, _||_}
 use Rattle.laws.specs.Choice.{if_then_else_, _<?_, _≤?_, _=?_}
-use Rattle.kinds.specs.Refusals.{Answer, given, refusal, noKind}
+use Rattle.answers.specs.Refusals.{Answer, given, refusal}
+use Rattle.kinds.specs.Refusals.{noKind}
 use Rattle.warp.specs.Buffers.{wordsNeeded}
 use Rattle.step.specs.Step.{oneBit}
 

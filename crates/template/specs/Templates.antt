@@ -3,7 +3,7 @@ use Prim.Native.Nat.{ℕ}
 use mathlib.Core.Bool.{not}
 use mathlib.Core.List.{List}
 use Rattle.laws.specs.Choice.{if_then_else_, _=?_}
-use Rattle.kinds.specs.Refusals.{Answer, given, refusal}
+use Rattle.answers.specs.Refusals.{Answer, given, refusal}
 use Rattle.warp.specs.Buffers.{unpackedOf, packedOf, wordsNeeded}
 
 -- B of kind 3, row-major, row k column c at byte 8k + c: a record's bytes are that matrix.

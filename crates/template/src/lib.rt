@@ -1,14 +1,14 @@
 // Soft templates: records of 256 bytes that hold B of kind 3, row-major, read into lane words and written back.
 ghost use mathlib.Core.Path.{_≡_};
 ghost use lib.ListN.{length};
-ghost use Rattle.kinds.specs.Refusals.{told, after};
+ghost use Rattle.answers.specs.Refusals.{told, after};
 ghost use Rattle.warp.specs.Buffers.{Fitting};
 ghost use Rattle.template.specs.Templates.{templateWords, templateRecord, readAnswer, writeAnswer};
+use answers::Refusal;
+use answers::Verdict;
 use kinds::Kind;
 use kinds::Layout;
-use kinds::Refusal;
 use kinds::Role;
-use kinds::Verdict;
 
 // The bytes of a record.
 pub const BYTES: usize = 256;

@@ -3,7 +3,7 @@ use mathlib.Core.Path.{_≡_, sym, ap₂, _∙_}
 use mathlib.Core.Bool.{not}
 use Prim.Native.Nat.{ℕ}
 use Rattle.laws.specs.Choice.{if_then_else_, _=?_}
-use Rattle.kinds.specs.Refusals.{given, refusal}
+use Rattle.answers.specs.Refusals.{given, refusal}
 use Rattle.kinds.proofs.Table.{Legal, layoutAt}
 use Rattle.kinds.proofs.Judged.{judged-is}
 use Rattle.warp.proofs.Placed.{words-needed, entries-needed}

@@ -8,7 +8,7 @@ use lib.ListN.{length, getD}
 use Rattle.laws.specs.Choice.{_=?_}
 use Rattle.kinds.specs.Kinds.{entryOf, roleOf, rows, columns}
 use Rattle.kinds.specs.Rule.{rowsOf, columnsOf, holderOf}
-use Rattle.kinds.specs.Refusals.{given}
+use Rattle.answers.specs.Refusals.{given}
 use Rattle.kinds.specs.Answers.{placeAnswer}
 use Rattle.kinds.proofs.Table.{Legal, layoutAt, sane, rows-are, columns-are}
 use Rattle.kinds.proofs.Judged.{passed, judged-given}

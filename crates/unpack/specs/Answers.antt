@@ -4,7 +4,8 @@ use mathlib.Core.Bool.{not}
 use Rattle.laws.specs.Choice.{if_then_else_, _=?_}
 use Rattle.kinds.specs.Kinds.{lanes}
 use Rattle.kinds.specs.Rule.{rowsOf, columnsOf}
-use Rattle.kinds.specs.Refusals.{Answer, given, refusal, judged}
+use Rattle.answers.specs.Refusals.{Answer, given, refusal}
+use Rattle.kinds.specs.Refusals.{judged}
 use Rattle.kinds.specs.declared.Layout.{Layout}
 use Rattle.warp.specs.Buffers.{wordsNeeded, entriesNeeded}
 

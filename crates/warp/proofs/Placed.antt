@@ -5,7 +5,7 @@ use Prim.Native.Nat.{ℕ, _*_, _<_}
 use lib.ListN.{getD}
 use Rattle.kinds.specs.Kinds.{lanes, entryOf, roleOf, columns}
 use Rattle.kinds.specs.Rule.{Laid, elementsOf, rowsOf, columnsOf, placeIn}
-use Rattle.kinds.specs.Refusals.{given}
+use Rattle.answers.specs.Refusals.{given}
 use Rattle.kinds.specs.Answers.{placeAnswer}
 use Rattle.kinds.specs.declared.Layout.{Layout}
 use Rattle.kinds.proofs.Table.{Legal, layoutAt, sane, rows-are, columns-are, bits-are, words-are}

@@ -1,8 +1,8 @@
 // Words of a fixed pattern are unpacked and packed again, for every kind and role, and written to a template record and read back; then the
 // same with lengths, kinds, roles and entries that are refused. A line each, for an operator to read.
+use answers::Verdict;
 use kinds::Kind;
 use kinds::Role;
-use kinds::Verdict;
 
 // The largest prime below 2^32: sums are taken modulo it.
 const PRIME: u64 = 4294967291;

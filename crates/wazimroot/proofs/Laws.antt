@@ -5,7 +5,7 @@ use Prim.Native.Nat.{ℕ, _+_, _-_, _*_, _^_, _≤_}
 use native.Mathlib.Omega.{arith}
 use lib.ListN.{length, set, take, drop, length-drop, drop-of-length-le}
 use lib.Seq.{length-take-le, take-all, drop-at}
-use Rattle.kinds.specs.Refusals.{Answer, given, refusal, told, after}
+use Rattle.answers.specs.Refusals.{Answer, given, refusal, told, after}
 use Rattle.run.specs.declared.Run.{Run}
 use Rattle.wazimroot.specs.Codes.{codeOf, pairAfter}
 use Rattle.wazimroot.specs.Words.{wordsOf}

@@ -6,11 +6,11 @@ use mathlib.Core.Logic.{_↔_}
 use Prim.Native.Nat.{ℕ, _/_, _%_, _^_, _<_, _≤_}
 use native.Mathlib.Omega.{arith}
 use lib.ListN.{length}
-use Rattle.kinds.specs.Refusals.{Answer, given, refusal, told, after, numberOf}
-use Rattle.kinds.specs.declared.Refusal.{Refusal}
-use Rattle.kinds.specs.declared.Refusal.the-variants.{UnknownKind, UnknownRole, NotArithmetic, BadSelectors, WrongLength, Outside, TooWide, BadScale, RunFull, BadRun}
-use Rattle.kinds.specs.declared.Verdict.{Verdict}
-use Rattle.kinds.specs.declared.Verdict.the-variants.{Accepted, Refused}
+use Rattle.answers.specs.Refusals.{Answer, given, refusal, told, after, numberOf}
+use Rattle.answers.specs.declared.Refusal.{Refusal}
+use Rattle.answers.specs.declared.Refusal.the-variants.{UnknownKind, UnknownRole, NotArithmetic, BadSelectors, WrongLength, Outside, TooWide, BadScale, RunFull, BadRun}
+use Rattle.answers.specs.declared.Verdict.{Verdict}
+use Rattle.answers.specs.declared.Verdict.the-variants.{Accepted, Refused}
 use Rattle.run.specs.declared.Run.{Run}
 use Rattle.run.specs.Runs.{openedRun, zeroRun, fedRun, usedOf}
 use Rattle.run.specs.Answers.{openAnswer, feedAnswer, readAnswer}

@@ -1,7 +1,7 @@
 -- The C interface's answers. Assumes nothing.
 use Prim.Native.Nat.{ℕ, _+_, _*_, _^_}
 use mathlib.Core.List.{List, [], _∷_}
-use Rattle.kinds.specs.Refusals.{Answer, given, refusal}
+use Rattle.answers.specs.Refusals.{Answer, given, refusal}
 
 -- 0 for accepted, else the refusal's number plus its detail times 2^32
 abbrev pub codeOf : {X : Type 0} → Answer X → ℕ

@@ -2,7 +2,7 @@
 use Prim.Native.Nat.{ℕ}
 use mathlib.Core.List.{List, [], _∷_}
 use lib.ListN.{length, getD, drop}
-use Rattle.kinds.specs.Refusals.{after}
+use Rattle.answers.specs.Refusals.{after}
 use Rattle.run.specs.Runs.{runOf, openedRun, zeroRun, fedRun, usedOf}
 use Rattle.run.specs.Answers.{openAnswer, feedAnswer, readAnswer}
 use Rattle.run.specs.Blocks.{Block}

@@ -8,7 +8,7 @@ use native.Mathlib.Omega.{arith}
 use denote.Ref.{now}
 use lib.ListN.{length}
 use Rattle.kinds.specs.Rule.{rowsOf, columnsOf}
-use Rattle.kinds.specs.Refusals.{refusal}
+use Rattle.answers.specs.Refusals.{refusal}
 use Rattle.pack.specs.Answers.{firstWide, packBy}
 use Rattle.pack.proofs.Answers.{first-fits, first-le}
 use Rattle.pack.proofs.pack_in.Statement.{statement}

@@ -1,7 +1,7 @@
 -- The verdict is the judge's. Where it accepts, it says what the filling asks, and where it refuses, nothing was written. Assumes nothing.
 use mathlib.Core.Path.{sym, ap, _∙_}
 use borrow.Author.Needs.{needs}
-use Rattle.kinds.specs.Refusals.{told}
+use Rattle.answers.specs.Refusals.{told}
 use Rattle.scale.proofs.Legal.{accepted}
 use Rattle.scale.proofs.scale.Statement.{statement}
 use Rattle.scale.proofs.scale.Tie as tie

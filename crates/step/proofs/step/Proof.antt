@@ -3,8 +3,8 @@ use borrow.Author.Needs.{needs}
 use mathlib.Core.Path.{sym, ap, _∙_}
 use denote.Ref.{now}
 use lib.ListN.{length}
-use Rattle.kinds.specs.Refusals.{told, after, given, numberOf, detailOf}
-use Rattle.kinds.specs.declared.Verdict.{Verdict}
+use Rattle.answers.specs.Refusals.{told, after, given, numberOf, detailOf}
+use Rattle.answers.specs.declared.Verdict.{Verdict}
 use Rattle.step.specs.Step.{stepped}
 use Rattle.step.specs.Answers.{Ready, fourBuffers, stepAnswer}
 use Rattle.step.proofs.Accepted.{selected-given, selected-is, selected-refused}

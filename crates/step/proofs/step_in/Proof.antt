@@ -2,8 +2,8 @@
 use borrow.Author.Needs.{needs}
 use mathlib.Core.Path.{sym, ap, _∙_}
 use denote.Ref.{now}
-use Rattle.kinds.specs.Refusals.{told, after}
-use Rattle.kinds.specs.declared.Verdict.{Verdict}
+use Rattle.answers.specs.Refusals.{told, after}
+use Rattle.answers.specs.declared.Verdict.{Verdict}
 use Rattle.step.specs.Step.{stepped}
 use Rattle.step.proofs.Accepted.{sized}
 use Rattle.step.proofs.step_in.Statement.{statement}

@@ -1,8 +1,8 @@
 -- A refusal has its own code. Assumes nothing.
 use borrow.Author.Needs.{needs}
 use mathlib.Core.Path.{sym, ap, _∙_}
-use Rattle.kinds.specs.Refusals.{told}
-use Rattle.kinds.specs.declared.Verdict.{Verdict}
+use Rattle.answers.specs.Refusals.{told}
+use Rattle.answers.specs.declared.Verdict.{Verdict}
 use Rattle.wazimroot.specs.Codes.{codeOf}
 use Rattle.wazimroot.proofs.code_of.Statement.{statement}
 use Rattle.wazimroot.proofs.code_of.Tie as tie

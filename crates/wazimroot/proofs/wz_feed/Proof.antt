@@ -5,7 +5,7 @@ use mathlib.Core.List.{List}
 use Prim.Native.Nat.{ℕ}
 use denote.Ref.{now}
 use lib.ListN.{length}
-use Rattle.kinds.specs.Refusals.{Answer, told, after}
+use Rattle.answers.specs.Refusals.{Answer, told, after}
 use Rattle.run.specs.declared.Run.{Run}
 use Rattle.run.specs.Runs.{fedRun}
 use Rattle.run.specs.Answers.{feedAnswer}

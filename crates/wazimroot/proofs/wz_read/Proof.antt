@@ -3,7 +3,7 @@ use borrow.Author.Needs.{needs}
 use mathlib.Core.Path.{ap, _∙_}
 use denote.Ref.{now}
 use lib.ListN.{length}
-use Rattle.kinds.specs.Refusals.{told, after}
+use Rattle.answers.specs.Refusals.{told, after}
 use Rattle.run.specs.declared.Run.{Run}
 use Rattle.run.specs.Runs.{usedOf}
 use Rattle.run.specs.Answers.{readAnswer}

@@ -1,7 +1,7 @@
 -- The block was accepted, and the run has it, or refused, and the run is as it was. Assumes nothing.
 use borrow.Author.Needs.{needs}
 use mathlib.Core.Path.{sym, ap, _∙_}
-use Rattle.kinds.specs.Refusals.{told}
+use Rattle.answers.specs.Refusals.{told}
 use Rattle.run.proofs.Laws.{feed-accepted, written, kept}
 use Rattle.run.proofs.Run.feed.Statement.{statement}
 use Rattle.run.proofs.Run.feed.Tie as tie

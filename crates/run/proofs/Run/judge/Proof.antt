@@ -2,7 +2,7 @@
 use borrow.Author.Needs.{needs}
 use borrow.Author.Tests.{lt-ltb, le-ltb}
 use mathlib.Core.Path.{sym, ap, _∙_}
-use Rattle.kinds.specs.Refusals.{told, numberOf, detailOf}
+use Rattle.answers.specs.Refusals.{told, numberOf, detailOf}
 use Rattle.run.proofs.Laws.{chosen-is, chosen-refused}
 use Rattle.run.proofs.Run.judge.Statement.{statement}
 use Rattle.run.proofs.Run.judge.Tie as tie

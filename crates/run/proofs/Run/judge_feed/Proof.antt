@@ -3,7 +3,7 @@ use borrow.Author.Needs.{needs}
 use borrow.Author.Tests.{le-leb, lt-leb, eq-eqb, ne-eqb}
 use mathlib.Core.Path.{_≡_, sym, ap, _∙_}
 use mathlib.Core.Bool.{false}
-use Rattle.kinds.specs.Refusals.{told}
+use Rattle.answers.specs.Refusals.{told}
 use Rattle.warp.specs.Buffers.{wordsNeeded}
 use Rattle.warp.proofs.Placed.{length-a, length-b}
 use Rattle.run.specs.Answers.{noRun, feedAnswer}

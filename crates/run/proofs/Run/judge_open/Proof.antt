@@ -2,7 +2,7 @@
 use borrow.Author.Needs.{needs}
 use borrow.Author.Tests.{eq-eqb, ne-eqb}
 use mathlib.Core.Path.{sym, ap, _∙_}
-use Rattle.kinds.specs.Refusals.{told, given, numberOf, detailOf}
+use Rattle.answers.specs.Refusals.{told, given, numberOf, detailOf}
 use Rattle.step.specs.Answers.{Ready}
 use Rattle.warp.proofs.Placed.{length-c}
 use Rattle.step.proofs.Accepted.{selected-given, selected-is, selected-refused}

@@ -3,7 +3,7 @@ use borrow.Author.Needs.{needs}
 use borrow.Author.Tests.{eq-eqb, ne-eqb}
 use mathlib.Core.Path.{_≡_, sym, ap, _∙_}
 use mathlib.Core.Bool.{false}
-use Rattle.kinds.specs.Refusals.{told}
+use Rattle.answers.specs.Refusals.{told}
 use Rattle.warp.proofs.Placed.{length-c}
 use Rattle.run.specs.Answers.{noRun, readAnswer}
 use Rattle.run.proofs.Laws.{sound, judged-sound, judged-refused}

@@ -2,7 +2,7 @@
 use borrow.Author.Needs.{needs}
 use mathlib.Core.Path.{sym, ap, _∙_}
 use Rattle.laws.specs.Lists.{tab}
-use Rattle.kinds.specs.Refusals.{told}
+use Rattle.answers.specs.Refusals.{told}
 use Rattle.run.specs.Runs.{zeros, zeroRun}
 use Rattle.run.proofs.Laws.{open-accepted, written, kept}
 use Rattle.run.proofs.Run.open.Statement.{statement}

@@ -6,7 +6,7 @@ use native.Mathlib.Omega.{arith}
 use denote.Ref.{now}
 use lib.ListN.{length, take}
 use lib.Seq.{length-take-le}
-use Rattle.kinds.specs.Refusals.{told}
+use Rattle.answers.specs.Refusals.{told}
 use Rattle.warp.specs.Buffers.{wordsNeeded}
 use Rattle.step.specs.Answers.{Ready}
 use Rattle.run.specs.Runs.{usedOf}

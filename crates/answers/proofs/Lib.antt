@@ -1,0 +1,4 @@
+pub mod Refusals
+pub mod Words
+pub mod Shows
+pub mod Demand1

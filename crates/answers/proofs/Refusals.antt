@@ -1,0 +1,41 @@
+-- A refusal is its number and detail, so that two verdicts that are told alike are equal. Assumes nothing.
+use mathlib.Core.Path.{_≡_, refl, ap}
+use mathlib.Core.List.{[], _∷_}
+use Prim.Native.Nat.{ℕ}
+use lib.ListN.{getD}
+use Rattle.laws.proofs.Unique.{one-answer}
+use Rattle.answers.specs.Refusals.{Answer, given, refusal, numberOf, detailOf, told}
+use Rattle.answers.specs.declared.Refusal.{Refusal}
+use Rattle.answers.specs.declared.Refusal.the-variants.{UnknownKind, UnknownRole, NotArithmetic, BadSelectors, WrongLength, Outside, TooWide, BadScale, RunFull, BadRun}
+use Rattle.answers.specs.declared.Verdict.{Verdict}
+use Rattle.answers.specs.declared.Verdict.the-variants.{Accepted, Refused}
+
+-- no two of the enum have the same
+pub refusalOf : ℕ → ℕ → Refusal
+refusalOf n d =
+    getD (UnknownKind ∷ UnknownKind ∷ UnknownRole ∷ NotArithmetic ∷ BadSelectors ∷ WrongLength d ∷ Outside ∷ TooWide d ∷ BadScale d ∷ RunFull ∷ BadRun ∷ []) n UnknownKind
+
+pub refusal-back : (f : Refusal) → refusalOf (numberOf f) (detailOf f) ≡ f
+unfolding refusalOf
+refusal-back UnknownKind = refl
+refusal-back UnknownRole = refl
+refusal-back NotArithmetic = refl
+refusal-back BadSelectors = refl
+refusal-back (WrongLength b) = refl
+refusal-back Outside = refl
+refusal-back (TooWide i) = refl
+refusal-back (BadScale s) = refl
+refusal-back RunFull = refl
+refusal-back BadRun = refl
+
+verdictOf : Answer (Unit {0}) → Verdict
+verdictOf (given x) = Accepted
+verdictOf (refusal n d) = Refused (refusalOf n d)
+
+verdict-back : (a : Verdict) → verdictOf (told a) ≡ a
+unfolding verdictOf
+verdict-back Accepted = refl
+verdict-back (Refused f) = ap Refused (refusal-back f)
+
+pub one-verdict : (a b : Verdict) (q : Answer (Unit {0})) → told a ≡ q → told b ≡ q → a ≡ b
+one-verdict = one-answer told verdictOf verdict-back
