@@ -8,7 +8,7 @@ use Rattle.laws.specs.Choice.{if_then_else_}
 use Rattle.answers.specs.Tests.{holds}
 use Rattle.answers.specs.Refusals.{Answer, given, refusal, told, after}
 use Rattle.answers.specs.Calls.{Line, first, Call, answer, judgement, Gives, NoneSays}
-use Rattle.answers.specs.Contracts.{Meets, Replies}
+use Rattle.answers.specs.Contracts.{Meets, Replies, Coded}
 use Rattle.answers.specs.declared.Refusal.{Refusal}
 use Rattle.answers.specs.declared.Verdict.{Verdict}
 use Rattle.answers.specs.declared.Verdict.the-variants.{Accepted, Refused}
@@ -97,3 +97,7 @@ module _ {X : Type 0} {call : Call X} where
   module _ {old : X} where
     pub no-second : {a b : Verdict} {x y : X} → Meets call old a x → Meets call old b y → (a ≡ b) × (x ≡ y)
     no-second {a} {b} m n = (one-verdict a b (judgement call) (verdict-is m) (verdict-is n), leaves m ∙ sym (leaves n))
+
+    -- and in C, of the word and the buffer.
+    pub no-second-code : {a b : ℕ} {x y : X} → Coded call old a x → Coded call old b y → (a ≡ b) × (x ≡ y)
+    no-second-code m n = (m .code-is ∙ sym (n .code-is), m .left-is ∙ sym (n .left-is))

@@ -31,6 +31,7 @@ use Rattle.run.specs.declared.Run.{Run}
 use Rattle.run.specs.Runs.{usedOf}
 use Rattle.run.specs.Answers.{full, noRun, openAnswer, feedAnswer, readAnswer}
 use Rattle.run.proofs.Promises.{one-open, one-feed}
+use Rattle.answers.specs.Tests.{holds}
 use Rattle.scale.specs.Bytes.{legalSize, legalSide, legalByteId, legalThreadId, outputLength}
 use Rattle.scale.specs.Answers.{scaleAnswer}
 use Rattle.scale.proofs.Promises.{one-scale}
@@ -114,24 +115,24 @@ number-7-detail = wide-index
 
 -- 8: 'a scale selector is illegal': size 1, 2 or 4; side 0 or 1; 'Legal byte-id: 0 to 3 for size 1; 0 or 2 for size 2; 0 for size 4. Legal
 -- thread-id: 0 or 1 on side A, 0 to 3 on side B.'
-pub number-8-size : (size : ℕ) → (not (legalSize size) ≡ true) ↔ (¬ ((size ≡ 1) ⊎ (size ≡ 2) ⊎ (size ≡ 4)))
-number-8-size size = unless (legalSize size) (any-of (size =? 1) (size =? 2) (size =? 4) (equal size 1) (equal size 2) (equal size 4))
+pub number-8-size : (size : ℕ) → (not (holds (legalSize size)) ≡ true) ↔ (¬ ((size ≡ 1) ⊎ (size ≡ 2) ⊎ (size ≡ 4)))
+number-8-size size = unless (holds (legalSize size)) (any-of (size =? 1) (size =? 2) (size =? 4) (equal size 1) (equal size 2) (equal size 4))
 
-pub number-8-side : (side : ℕ) → (not (legalSide side) ≡ true) ↔ (¬ ((side ≡ 0) ⊎ (side ≡ 1)))
-number-8-side side = unless (legalSide side) (either (side =? 0) (side =? 1) (equal side 0) (equal side 1))
+pub number-8-side : (side : ℕ) → (not (holds (legalSide side)) ≡ true) ↔ (¬ ((side ≡ 0) ⊎ (side ≡ 1)))
+number-8-side side = unless (holds (legalSide side)) (either (side =? 0) (side =? 1) (equal side 0) (equal side 1))
 
 pub number-8-byte-id : (size byteId : ℕ)
-    → (not (legalByteId size byteId) ≡ true) ↔ (¬ (((size ≡ 1) × (byteId ≤ 3)) ⊎ ((size ≡ 2) × ((byteId ≡ 0) ⊎ (byteId ≡ 2))) ⊎ ((size ≡ 4) × (byteId ≡ 0))))
+    → (not (holds (legalByteId size byteId)) ≡ true) ↔ (¬ (((size ≡ 1) × (byteId ≤ 3)) ⊎ ((size ≡ 2) × ((byteId ≡ 0) ⊎ (byteId ≡ 2))) ⊎ ((size ≡ 4) × (byteId ≡ 0))))
 number-8-byte-id size byteId =
-    unless (legalByteId size byteId)
+    unless (holds (legalByteId size byteId))
     (any-of (size =? 1 && byteId ≤? 3) (size =? 2 && (byteId =? 0 || byteId =? 2)) (size =? 4 && byteId =? 0)
     (both (size =? 1) (byteId ≤? 3) (equal size 1) (at-most byteId 3))
     (both (size =? 2) (byteId =? 0 || byteId =? 2) (equal size 2) (either (byteId =? 0) (byteId =? 2) (equal byteId 0) (equal byteId 2)))
     (both (size =? 4) (byteId =? 0) (equal size 4) (equal byteId 0)))
 
-pub number-8-thread-id : (side threadId : ℕ) → (not (legalThreadId side threadId) ≡ true) ↔ (¬ (((side ≡ 0) × (threadId ≤ 1)) ⊎ ((side ≡ 1) × (threadId ≤ 3))))
+pub number-8-thread-id : (side threadId : ℕ) → (not (holds (legalThreadId side threadId)) ≡ true) ↔ (¬ (((side ≡ 0) × (threadId ≤ 1)) ⊎ ((side ≡ 1) × (threadId ≤ 3))))
 number-8-thread-id side threadId =
-    unless (legalThreadId side threadId)
+    unless (holds (legalThreadId side threadId))
     (either (side =? 0 && threadId ≤? 1) (side =? 1 && threadId ≤? 3)
     (both (side =? 0) (threadId ≤? 1) (equal side 0) (at-most threadId 1))
     (both (side =? 1) (threadId ≤? 3) (equal side 1) (at-most threadId 3)))

@@ -13,6 +13,7 @@ use Rattle.warp.specs.Buffers.{wordsNeeded, entriesNeeded}
 use Rattle.pack.specs.Answers.{firstWide}
 use Rattle.step.specs.Answers.{noArithmetic, noSelectors}
 use Rattle.run.specs.Answers.{full, noRun}
+use Rattle.answers.specs.Tests.{holds}
 use Rattle.scale.specs.Bytes.{legalSize, legalSide, legalByteId, legalThreadId, outputLength}
 use Rattle.promises.specs.Calls.{Call, unpack, pack, readRecord, writeRecord, step, plainStep, openRun, feedRun, readRun, scale}
 use Rattle.promises.specs.Order.{Link, link, Line, line}
@@ -90,10 +91,10 @@ links (readRun run d) =
     ∷ link (not (length d =? wordsNeeded (run .kind .0) 2)) 5 0
     ∷ []
 links (scale size side byteId threadId metadata output) =
-    link (not (legalSize size)) 8 0
-    ∷ link (not (legalSide side)) 8 1
-    ∷ link (not (legalByteId size byteId)) 8 2
-    ∷ link (not (legalThreadId side threadId)) 8 3
+    link (not (holds (legalSize size))) 8 0
+    ∷ link (not (holds (legalSide side))) 8 1
+    ∷ link (not (holds (legalByteId size byteId))) 8 2
+    ∷ link (not (holds (legalThreadId side threadId))) 8 3
     ∷ link (not (length metadata =? 32)) 5 0
     ∷ link (not (length output =? outputLength size side)) 5 1
     ∷ []

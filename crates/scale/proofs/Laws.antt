@@ -18,6 +18,7 @@ use Rattle.laws.specs.Choice.{if_then_else_, _=?_}
 use Rattle.laws.specs.Lists.{tab, blocks}
 use Rattle.laws.proofs.Every.{all-at, all₂-≡}
 use Rattle.laws.proofs.Lists.{length-tab, getD-tab, is-tab, tab-ext}
+use Rattle.answers.specs.Tests.{Says}
 use Rattle.scale.specs.Bytes.{legalThreadId, taken, chosenLanes, byteOf, bytesFrom, chosenBytes, exponent, scaled, outputLength}
 use Rattle.scale.proofs.Legal.{thread-A, thread-B}
 
@@ -39,7 +40,7 @@ unfolding chosenLanes tab
 count-B t h = eqb→eq (length (chosenLanes 1 t)) 8 (all-at 4 (λ t. length (chosenLanes 1 t) =? 8) tt t h)
 
 -- as many as the output has numbers at one from each
-lanes-length : (side t : ℕ) → legalThreadId side t ≡ true → length (chosenLanes side t) ≡ outputLength 1 side
+lanes-length : (side t : ℕ) → Says (legalThreadId side t) → length (chosenLanes side t) ≡ outputLength 1 side
 lanes-length side t ok = on (ℕ-discrete side 0)
   where
     on : Dec (side ≡ 0) → length (chosenLanes side t) ≡ outputLength 1 side
@@ -96,7 +97,7 @@ abbrev pub number : (side b t : ℕ) → List ℕ → (k j : ℕ) → ℤ
 number side b t m k j = exponent (byteOf (getD m (getD (chosenLanes side t) k 0) 0) (b + j))
 
 -- the output, by number
-module _ (s side b t : ℕ) (m : List ℕ) (ok : legalThreadId side t ≡ true) where
+module _ (s side b t : ℕ) (m : List ℕ) (ok : Says (legalThreadId side t)) where
   numbers : outputLength s side ≡ length (chosenLanes side t) * s
   numbers = by-one s side ∙ ap (λ (n : ℕ). n * s) (sym (lanes-length side t ok))
 

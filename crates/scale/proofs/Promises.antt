@@ -10,6 +10,7 @@ use Rattle.laws.proofs.Lists.{length-tab, getD-tab}
 use Rattle.kinds.specs.Kinds.{lanes}
 use Rattle.answers.specs.Refusals.{refusal}
 use Rattle.kinds.proofs.Promises.{Only, only}
+use Rattle.answers.specs.Tests.{Says}
 use Rattle.scale.specs.Bytes.{legalThreadId, takes, chosenLanes, byteOf, chosenBytes, exponent, scaled, outputLength}
 use Rattle.scale.specs.Answers.{scaleAnswer}
 use Rattle.scale.proofs.Laws.{same-bytes, scaled-length}
@@ -31,7 +32,7 @@ chosen-only size side byteId threadId m n h =
     lt i l = subst (λ (n : ℕ). i < n) (length-tab lanes (λ l. l)) l
 
 -- 'Output: 16 times size numbers on side A, 8 times size on side B', for every thread-id that the side allows.
-pub output-length : (size side byteId threadId : ℕ) (m : List ℕ) → legalThreadId side threadId ≡ true → length (scaled size side byteId threadId m) ≡ outputLength size side
+pub output-length : (size side byteId threadId : ℕ) (m : List ℕ) → Says (legalThreadId side threadId) → length (scaled size side byteId threadId m) ≡ outputLength size side
 output-length = scaled-length
 
 -- 'Show that no second answer satisfies it'.

@@ -1,27 +1,31 @@
 -- Document 01, 'Scale bytes'. Assumes nothing.
 use Prim.Native.Nat.{ℕ, _+_, _*_, _/_, _%_, _^_}
-use mathlib.Core.Bool.{Bool, _&&_, _||_}
+use mathlib.Core.Bool.{Bool, _||_}
 use mathlib.Core.List.{List, [], _∷_, _++_, map}
 use lib.ListN.{getD}
 use lib.IntN.{ℤ, subℕ}
-use Rattle.laws.specs.Choice.{if_then_else_, _≤?_, _=?_}
+use Rattle.laws.specs.Choice.{if_then_else_, _=?_}
 use Rattle.laws.specs.Lists.{tab}
+use Rattle.answers.specs.Tests.{Test, is, reaches, either, both}
 use Rattle.kinds.specs.Kinds.{lanes}
 
 -- Legal sizes are 1, 2 and 4; side 0 is A, 1 is B.
-abbrev pub legalSize : ℕ → Bool
-legalSize size = size =? 1 || size =? 2 || size =? 4
+abbrev pub legalSize : ℕ → Test
+legalSize size = either (either (is size 1) (is size 2)) (is size 4)
 
-abbrev pub legalSide : ℕ → Bool
-legalSide side = side =? 0 || side =? 1
+abbrev pub legalSide : ℕ → Test
+legalSide side = either (is side 0) (is side 1)
 
 -- Legal byte-id: 0 to 3 for size 1; 0 or 2 for size 2; 0 for size 4.
-abbrev pub legalByteId : (size byteId : ℕ) → Bool
-legalByteId size byteId = size =? 1 && byteId ≤? 3 || size =? 2 && (byteId =? 0 || byteId =? 2) || size =? 4 && byteId =? 0
+abbrev pub legalByteId : (size byteId : ℕ) → Test
+legalByteId size byteId =
+    either
+    (either (both (is size 1) (reaches 3 byteId)) (both (is size 2) (either (is byteId 0) (is byteId 2))))
+    (both (is size 4) (is byteId 0))
 
 -- Legal thread-id: 0 or 1 on side A, 0 to 3 on side B.
-abbrev pub legalThreadId : (side threadId : ℕ) → Bool
-legalThreadId side threadId = side =? 0 && threadId ≤? 1 || side =? 1 && threadId ≤? 3
+abbrev pub legalThreadId : (side threadId : ℕ) → Test
+legalThreadId side threadId = either (both (is side 0) (reaches 1 threadId)) (both (is side 1) (reaches 3 threadId))
 
 -- Side A takes the lanes with t = 0 or 1 (thread-id 0), or t = 2 or 3 (thread-id 1); side B those with t = thread-id.
 abbrev pub takes : (side threadId lane : ℕ) → Bool

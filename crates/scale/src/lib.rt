@@ -1,13 +1,13 @@
 // Scale bytes: the choice of bytes by the selectors, and their reading as exponents.
 ghost use mathlib.Core.Path.{_≡_};
-ghost use mathlib.Core.Bool.{true};
 ghost use Prim.Native.Nat.{_+_, _<_, _≤_};
 ghost use lib.ListN.{length, getD};
 ghost use Rattle.kinds.specs.Kinds.{lanes};
-ghost use Rattle.answers.specs.Refusals.{told, after};
+ghost use Rattle.answers.specs.Tests.{Says};
+ghost use Rattle.answers.specs.Contracts.{Tells, Judges, Meets};
 ghost use Rattle.laws.specs.Lists.{fills};
 ghost use Rattle.scale.specs.Bytes.{legalSize, legalSide, legalByteId, legalThreadId, chosenLanes, byteOf, exponent, scaled, outputLength};
-ghost use Rattle.scale.specs.Answers.{scaleAnswer};
+ghost use Rattle.scale.specs.Answers.{scaleRefusals, scaleCall};
 ghost use Rattle.scale.specs.Legal.{Legal};
 use answers::Refusal;
 use answers::Verdict;
@@ -24,7 +24,7 @@ pub struct ThreadId(pub u32);
 
 impl Size {
     fn legal(self) -> bool
-        ensures { λ r. ⌜ r ≡ legalSize (self .0) ⌝ }
+        ensures { λ r. ⌜ Tells (legalSize (self .0)) r ⌝ }
     {
         let s = self.0;
         if s == 1 {
@@ -33,7 +33,10 @@ impl Size {
         if s == 2 {
             return true;
         }
-        s == 4
+        if s == 4 {
+            return true;
+        }
+        false
     }
 }
 
@@ -43,33 +46,45 @@ impl Side {
     pub const B: u32 = 1;
 
     fn legal(self) -> bool
-        ensures { λ r. ⌜ r ≡ legalSide (self .0) ⌝ }
+        ensures { λ r. ⌜ Tells (legalSide (self .0)) r ⌝ }
     {
         let s = self.0;
         if s == Side::A {
             return true;
         }
-        s == Side::B
+        if s == Side::B {
+            return true;
+        }
+        false
     }
 }
 
 impl ByteId {
     fn legal(self, size: Size) -> bool
-        ensures { λ r. ⌜ r ≡ legalByteId (size .0) (self .0) ⌝ }
+        ensures { λ r. ⌜ Tells (legalByteId (size .0) (self .0)) r ⌝ }
     {
         let s = size.0;
         let b = self.0;
         if s == 1 {
-            return b <= 3;
+            if b <= 3 {
+                return true;
+            }
+            return false;
         }
         if s == 2 {
             if b == 0 {
                 return true;
             }
-            return b == 2;
+            if b == 2 {
+                return true;
+            }
+            return false;
         }
         if s == 4 {
-            return b == 0;
+            if b == 0 {
+                return true;
+            }
+            return false;
         }
         false
     }
@@ -77,15 +92,21 @@ impl ByteId {
 
 impl ThreadId {
     fn legal(self, side: Side) -> bool
-        ensures { λ r. ⌜ r ≡ legalThreadId (side .0) (self .0) ⌝ }
+        ensures { λ r. ⌜ Tells (legalThreadId (side .0) (self .0)) r ⌝ }
     {
         let s = side.0;
         let t = self.0;
         if s == Side::A {
-            return t <= 1;
+            if t <= 1 {
+                return true;
+            }
+            return false;
         }
         if s == Side::B {
-            return t <= 3;
+            if t <= 3 {
+                return true;
+            }
+            return false;
         }
         false
     }
@@ -112,7 +133,7 @@ fn judge(
     words: usize,
     numbers: usize,
 ) -> Verdict
-    ensures { λ r. ⌜ told r ≡ scaleAnswer (size .0) (side .0) («byte_id» .0) («thread_id» .0) words numbers ⌝ }
+    ensures { λ r. ⌜ Judges (scaleRefusals (size .0) (side .0) («byte_id» .0) («thread_id» .0) words numbers) r ⌝ }
 {
     if !size.legal() {
         return Verdict::Refused(Refusal::BadScale(0));
@@ -137,7 +158,7 @@ fn judge(
 
 // The chosen lane number k, lanes ascending: of each quad, two lanes on side A, from twice the thread-id on, and one on side B, the thread-id.
 fn lane_at(side: Side, thread_id: ThreadId, k: u32) -> Lane
-    requires { ⌜ legalThreadId (side .0) («thread_id» .0) ≡ true ⌝ }
+    requires { ⌜ Says (legalThreadId (side .0) («thread_id» .0)) ⌝ }
     requires { ⌜ k < outputLength 1 (side .0) ⌝ }
     ensures { λ r. ⌜ (r .0 ≡ getD (chosenLanes (side .0) («thread_id» .0)) k 0) × (r .0 < lanes) ⌝ }
 {
@@ -204,8 +225,7 @@ pub fn scale(
     metadata: &[u32],
     out: &mut [i32],
 ) -> Verdict
-    ensures { λ r. ⌜ told r ≡ scaleAnswer (size .0) (side .0) («byte_id» .0) («thread_id» .0) (length (now (metadata .entry))) (length (now (out .entry))) ⌝ }
-    ensures { λ r. ⌜ now (out .exit) ≡ after (told r) (scaled (size .0) (side .0) («byte_id» .0) («thread_id» .0) (now (metadata .entry))) (now (out .entry)) ⌝ }
+    ensures { λ r. ⌜ Meets (scaleCall (size .0) (side .0) («byte_id» .0) («thread_id» .0) (now (metadata .entry)) (now (out .entry))) (now (out .entry)) r (now (out .exit)) ⌝ }
 {
     let verdict = judge(size, side, byte_id, thread_id, metadata.len(), out.len());
     match verdict {

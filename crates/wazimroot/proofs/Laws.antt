@@ -7,7 +7,8 @@ use lib.ListN.{length, set, take, drop, length-drop, drop-of-length-le}
 use lib.Seq.{length-take-le, take-all, drop-at}
 use Rattle.answers.specs.Refusals.{Answer, given, refusal, told, after}
 use Rattle.run.specs.declared.Run.{Run}
-use Rattle.wazimroot.specs.Codes.{codeOf, pairAfter}
+use Rattle.answers.specs.Contracts.{codeOf}
+use Rattle.wazimroot.specs.Codes.{pairAfter}
 use Rattle.wazimroot.specs.Words.{wordsOf}
 
 -- a call with a verdict, told as p, where its answer is q

@@ -15,7 +15,7 @@ use Rattle.run.specs.declared.Run.{Run}
 use Rattle.run.specs.Runs.{openedRun, zeroRun, fedRun, usedOf}
 use Rattle.run.specs.Answers.{openAnswer, feedAnswer, readAnswer}
 use Rattle.run.specs.Blocks.{Block, fedBy, fedAll}
-use Rattle.wazimroot.specs.Codes.{codeOf}
+use Rattle.answers.specs.Contracts.{codeOf}
 use Rattle.wazimroot.specs.Words.{runIn, wordsOf, openedWords, readWords, fedAllWords}
 
 -- The run in a run's words is the run,

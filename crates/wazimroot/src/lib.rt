@@ -12,9 +12,9 @@ ghost use Rattle.template.specs.Templates.{templateWords, templateRecord, readA
 ghost use Rattle.step.specs.Step.{stepped};
 ghost use Rattle.step.specs.Answers.{stepAnswer, plainAnswer};
 ghost use Rattle.run.specs.Answers.{openAnswer, feedAnswer, readAnswer};
-ghost use Rattle.scale.specs.Bytes.{scaled};
-ghost use Rattle.scale.specs.Answers.{scaleAnswer};
-ghost use Rattle.wazimroot.specs.Codes.{codeOf, pairAfter};
+ghost use Rattle.scale.specs.Answers.{scaleCall};
+ghost use Rattle.answers.specs.Contracts.{codeOf, Coded};
+ghost use Rattle.wazimroot.specs.Codes.{pairAfter};
 ghost use Rattle.wazimroot.specs.Words.{runIn, wordsOf, openedWords, fedWords, readWords};
 use answers::Refusal;
 use answers::Verdict;
@@ -226,8 +226,7 @@ pub extern "C" fn wz_scale(
     metadata: &[u32],
     out: &mut [i32],
 ) -> u64
-    ensures { λ r. ⌜ r ≡ codeOf (scaleAnswer size side «byte_id» «thread_id» (length (now (metadata .entry))) (length (now (out .entry)))) ⌝ }
-    ensures { λ _. ⌜ now (out .exit) ≡ after (scaleAnswer size side «byte_id» «thread_id» (length (now (metadata .entry))) (length (now (out .entry)))) (scaled size side «byte_id» «thread_id» (now (metadata .entry))) (now (out .entry)) ⌝ }
+    ensures { λ r. ⌜ Coded (scaleCall size side «byte_id» «thread_id» (now (metadata .entry)) (now (out .entry))) (now (out .entry)) r (now (out .exit)) ⌝ }
 {
     code_of(scale::scale(
         Size(size),

@@ -1,8 +1,6 @@
--- The verdict is the judge's. Where it accepts, it says what the filling asks, and where it refuses, nothing was written. Assumes nothing.
-use mathlib.Core.Path.{sym, ap, _∙_}
+-- The verdict is the judge's; where it admits, the work is done, and where it rejects, nothing is. Assumes nothing.
 use borrow.Author.Needs.{needs}
-use Rattle.answers.specs.Refusals.{told}
-use Rattle.scale.proofs.Legal.{accepted}
+use Rattle.answers.proofs.Shows.{admitted, worked}
 use Rattle.scale.proofs.scale.Statement.{statement}
 use Rattle.scale.proofs.scale.Tie as tie
 
@@ -13,7 +11,12 @@ enum-told : tie.Need-enum-told
 enum-told c = search needs
 
 fill-requires : tie.Need-fill-requires
-fill-requires c κs = accepted _ _ _ _ _ _ (sym (c .before .before .before .judge .ensures) ∙ ap told (c .before .enum-told .given .1))
+fill-requires c κs =
+    let p = c .before in
+    let passed = admitted (p .before .before .judge .ensures) (p .enum-told .given .1) in
+    let ids = passed .1 .1 in
+    let lengths = ids .1 .1 in
+    (record { byte-id = ids .0; thread-id = ids .1 .0; words = lengths .0 }, lengths .1 .0)
 
 enum-told-2 : tie.Need-enum-told-2
 enum-told-2 c = search needs
@@ -22,10 +25,12 @@ same-length : tie.Need-same-length
 same-length c = search needs
 
 returns : tie.Need-returns
-returns c = let p = c .before .before .before in (p .before .before .judge .ensures, rw (p .enum-told .given .1) (c .before .fill .ensures))
+returns c =
+    let p = c .before .before .before in
+    worked (p .before .before .judge .ensures) (p .enum-told .given .1) (c .before .fill .ensures)
 
 returns-2 : tie.Need-returns-2
-returns-2 c = (c .before .before .judge .ensures, rw (c .enum-told2 .given .1))
+returns-2 c = search needs
 
 pub scale-spec : {M : Type 1} → statement M
 scale-spec =

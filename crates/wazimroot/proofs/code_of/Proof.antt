@@ -3,7 +3,7 @@ use borrow.Author.Needs.{needs}
 use mathlib.Core.Path.{sym, ap, _∙_}
 use Rattle.answers.specs.Refusals.{told}
 use Rattle.answers.specs.declared.Verdict.{Verdict}
-use Rattle.wazimroot.specs.Codes.{codeOf}
+use Rattle.answers.specs.Contracts.{codeOf}
 use Rattle.wazimroot.proofs.code_of.Statement.{statement}
 use Rattle.wazimroot.proofs.code_of.Tie as tie
 
