@@ -1,12 +1,53 @@
--- The C interface: a call that is passed on as it is keeps its verdict, and what it leaves. Assumes nothing.
-use mathlib.Core.Path.{_≡_, ap, _∙_}
-use Prim.Native.Nat.{ℕ}
-use Rattle.answers.specs.Refusals.{told}
-use Rattle.answers.specs.Calls.{Call}
-use Rattle.answers.specs.Contracts.{Meets, codeOf, Coded}
+-- The C interface: the word of a call is that of its judgement, and what is left is what the call leaves. Assumes nothing.
+use mathlib.Core.Path.{_≡_, refl, sym, ap, _∙_}
+use Prim.Native.Nat.{ℕ, _+_, _*_, _^_}
+use Rattle.answers.specs.Refusals.{Answer, given, refusal, numberOf, detailOf, told, after}
+use Rattle.answers.specs.Calls.{Call, judgement, giving}
+use Rattle.answers.specs.Contracts.{Meets, Replies, codeOf, Coded}
+use Rattle.answers.specs.declared.Refusal.{Refusal}
 use Rattle.answers.specs.declared.Verdict.{Verdict}
-use Rattle.answers.proofs.Demand1.{verdict-is, leaves}
+use Rattle.answers.specs.declared.Verdict.the-variants.{Accepted, Refused}
+use Rattle.answers.proofs.Shows.{to-first, from-first, first-gives}
+use Rattle.answers.proofs.Demand1.{verdict-is, leaves, reply-is}
 
-pub coded : {X : Type 0} {call : Call X} {old : X} {verdict : Verdict} {left : X} {code : ℕ}
-    → Meets call old verdict left → code ≡ codeOf (told verdict) → Coded call old code left
-coded m e = record { code-is = e ∙ ap codeOf (verdict-is m); left-is = leaves m }
+made : {X Y : Type 0} (f : X → Y) (q : Answer (Unit {0})) (new old : X) → f (after q new old) ≡ after q (f new) (f old)
+made f (given x) new old = refl
+made f (refusal n d) new old = refl
+
+module _ {X : Type 0} {call : Call X} where
+  -- a call that is passed on as it is
+  pub coded : {old : X} {verdict : Verdict} {left : X} {code : ℕ} → Meets call old verdict left → code ≡ codeOf (told verdict) → Coded call old code left
+  coded m e = record { code-is = e ∙ ap codeOf (verdict-is m); left-is = leaves m }
+
+  -- and one that leaves what f makes of what it gives, and of what it was given
+  module _ {Y : Type 0} (f : X → Y) where
+    pub coded-as : {old : X} {verdict : Verdict} {out : X} {left : Y} {code : ℕ}
+        → Meets call old verdict out → code ≡ codeOf (told verdict) → left ≡ f out → Coded (giving f call) (f old) code left
+    coded-as {old} m e l = record { code-is = e ∙ ap codeOf (verdict-is m); left-is = l ∙ ap f (leaves m) ∙ made f (judgement call) (call .gives) old }
+
+    module _ {old : Y} where
+      -- a judgement that is known
+      by-given : given tt ≡ judgement call → {left : Y} → left ≡ f (call .gives) → Coded (giving f call) old 0 left
+      by-given q e = record { code-is = ap codeOf q; left-is = e ∙ ap (λ (q : Answer (Unit {0})). after q (f (call .gives)) old) q }
+
+      by-refused : {n d code : ℕ} → refusal n d ≡ judgement call → code ≡ n + d * 2 ^ 32 → Coded (giving f call) old code old
+      by-refused q e = record { code-is = e ∙ ap codeOf q; left-is = ap (λ (q : Answer (Unit {0})). after q (f (call .gives)) old) q }
+
+      -- a call that gave x, of which f x is written, or refused, where nothing is
+      pub reply-given : {q : Answer X} {x : X} {left : Y} → Replies call q → q ≡ given x → left ≡ f x → Coded (giving f call) old 0 left
+      reply-given {x = x} r g e =
+          let is = sym g ∙ reply-is r in
+          by-given (to-first (call .refusals) tt (given tt) (from-first (call .refusals) (call .gives) (given x) is) refl)
+          (e ∙ ap f (first-gives (call .refusals) (call .gives) is))
+
+      pub reply-refused : {q : Answer X} {n d code : ℕ} → Replies call q → q ≡ refusal n d → code ≡ n + d * 2 ^ 32 → Coded (giving f call) old code old
+      reply-refused {n = n} {d = d} r g e =
+          by-refused (to-first (call .refusals) tt (refusal n d) (from-first (call .refusals) (call .gives) (refusal n d) (sym g ∙ reply-is r)) tt) e
+
+      -- the same of a call with a verdict
+      module _ {was : X} {verdict : Verdict} {out : X} (m : Meets call was verdict out) where
+        pub left-given : {left : Y} → verdict ≡ Accepted → left ≡ f out → Coded (giving f call) old 0 left
+        left-given a e = by-given (sym (ap told a) ∙ verdict-is m) (e ∙ ap f (m .left-is ∙ ap (λ (v : Verdict). after (told v) (call .gives) was) a))
+
+        pub left-refused : {g : Refusal} {code : ℕ} → verdict ≡ Refused g → code ≡ numberOf g + detailOf g * 2 ^ 32 → Coded (giving f call) old code old
+        left-refused a e = by-refused (sym (ap told a) ∙ verdict-is m) e

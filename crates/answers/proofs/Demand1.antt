@@ -7,7 +7,7 @@ use Prim.Native.Nat.{ℕ, suc}
 use Rattle.laws.specs.Choice.{if_then_else_}
 use Rattle.answers.specs.Tests.{holds}
 use Rattle.answers.specs.Refusals.{Answer, given, refusal, told, after}
-use Rattle.answers.specs.Calls.{Line, first, Call, answer, judgement, Gives, NoneSays}
+use Rattle.answers.specs.Calls.{Line, first, Call, answer, judgement, leftBy, Gives, NoneSays}
 use Rattle.answers.specs.Contracts.{Meets, Replies, Coded}
 use Rattle.answers.specs.declared.Refusal.{Refusal}
 use Rattle.answers.specs.declared.Verdict.{Verdict}
@@ -62,7 +62,7 @@ module _ {X : Type 0} {call : Call X} {old : X} {verdict : Verdict} {left : X} (
   pub verdict-is : told verdict ≡ judgement call
   verdict-is = told-is (call .refusals) verdict (m .verdict-right)
 
-  pub leaves : left ≡ after (judgement call) (call .gives) old
+  pub leaves : left ≡ leftBy call old
   leaves = m .left-is ∙ ap (λ (q : Answer (Unit {0})). after q (call .gives) old) verdict-is
 
   -- It is refused with a number and a detail exactly when the first line that says so has them,

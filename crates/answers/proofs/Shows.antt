@@ -10,9 +10,9 @@ use borrow.Author.Tests.{ltb-true, ltb-false, lt-ltb, le-ltb, leb-true, leb-fals
 use Rattle.laws.specs.Choice.{if_then_else_, _<?_, _≤?_, _=?_}
 use Rattle.answers.specs.Refusals.{Answer, given, refusal, numberOf, detailOf, told, after}
 use Rattle.answers.specs.Tests.{Test, over, under, reaches, is, differs, either, both, unless, somewhere, holds, firstOf}
-use Rattle.answers.specs.Calls.{Line, _then_, first, Call}
+use Rattle.answers.specs.Calls.{Line, _then_, first, Call, answer}
 use Rattle.answers.specs.Right.{If, Denies, choose, Right, Refuses, Accepts, Given, Passes, Told}
-use Rattle.answers.specs.Contracts.{Meets, Judges, Tells}
+use Rattle.answers.specs.Contracts.{Meets, Replies, Judges, Tells}
 use Rattle.answers.specs.declared.Refusal.{Refusal}
 use Rattle.answers.specs.declared.Verdict.{Verdict}
 use Rattle.answers.specs.declared.Verdict.the-variants.{Accepted, Refused}
@@ -215,3 +215,20 @@ module _ {X : Type 0} {call : Call X} {old : X} {verdict : Verdict} where
 
   pub kept : {f : Refusal} → Judges (call .refusals) verdict → verdict ≡ Refused f → Meets call old verdict old
   kept j e = record { verdict-right = j .verdict-right; left-is = sym (ap (λ (v : Verdict). after (told v) (call .gives) old) e) }
+
+  -- a call whose judgement and whose leavings are known as equations
+  pub meets : {left : X} → told verdict ≡ first (call .refusals) tt → left ≡ after (told verdict) (call .gives) old → Meets call old verdict left
+  meets e l = record { verdict-right = from-first (call .refusals) tt (told verdict) e; left-is = l }
+
+-- A call that gives something back, its answer known as an equation.
+module _ {X : Type 0} where
+  pub first-gives : (ls : List Line) (x : X) {y : X} → given y ≡ first ls x → y ≡ x
+  first-gives [] x e = cc
+  first-gives (l ∷ ls) x e = cases (holds (l .test)) (λ h. absurd (never (sym (rw h at e)))) (λ h. first-gives ls x (rw h at e))
+
+  gives-it : (ls : List Line) (x : X) (q : Answer X) → q ≡ first ls x → Given q x
+  gives-it ls x (given y) e = first-gives ls x e
+  gives-it ls x (refusal n d) e = tt
+
+  pub replies : {call : Call X} {reply : Answer X} → reply ≡ answer call → Replies call reply
+  replies {call} {reply} e = record { reply-right = from-first (call .refusals) (call .gives) reply e; reply-is = gives-it (call .refusals) (call .gives) reply e }

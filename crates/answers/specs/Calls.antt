@@ -4,7 +4,7 @@ use mathlib.Core.Path.{_≡_}
 use mathlib.Core.Logic.{_⊎_}
 use mathlib.Core.List.{List, [], _∷_}
 use Rattle.laws.specs.Choice.{if_then_else_}
-use Rattle.answers.specs.Refusals.{Answer, given, refusal}
+use Rattle.answers.specs.Refusals.{Answer, given, refusal, after}
 use Rattle.answers.specs.Tests.{Test, somewhere, holds, Says, firstOf}
 
 -- a line of the table: when it is given, its number and its detail
@@ -44,9 +44,17 @@ pub record Call (X : Type 0) : Type 0 where
 abbrev pub answer : {X : Type 0} → Call X → Answer X
 answer call = first (call .refusals) (call .gives)
 
+-- the same call, giving what f makes of it
+abbrev pub giving : {X Y : Type 0} → (X → Y) → Call X → Call Y
+giving f call = record { refusals = call .refusals; gives = f (call .gives) }
+
 -- its judgement alone
 abbrev pub judgement : {X : Type 0} → Call X → Answer (Unit {0})
 judgement call = first (call .refusals) tt
+
+-- what it leaves: what it gives, or, where it refuses, old, which it was given
+abbrev pub leftBy : {X : Type 0} → Call X → (old : X) → X
+leftBy call old = after (judgement call) (call .gives) old
 
 -- the first of the lines that says so has this number and detail: it does, and no earlier one does
 abbrev pub Gives : List Line → (number detail : ℕ) → Type 0

@@ -5,7 +5,7 @@ use mathlib.Core.List.{List}
 use mathlib.Core.Bool.{Bool}
 use Rattle.answers.specs.Refusals.{Answer, given, refusal, told, after}
 use Rattle.answers.specs.Tests.{Test}
-use Rattle.answers.specs.Calls.{Line, Call, judgement}
+use Rattle.answers.specs.Calls.{Line, Call, judgement, leftBy}
 use Rattle.answers.specs.Right.{Right, Given, Told}
 use Rattle.answers.specs.declared.Verdict.{Verdict}
 
@@ -32,8 +32,7 @@ abbrev pub codeOf : {X : Type 0} → Answer X → ℕ
 codeOf (given x) = 0
 codeOf (refusal number detail) = number + detail * 2 ^ 32
 
--- A call of the C interface: the word is that of the judgement, and what is left, where old stood, is what the call gives, or old where it
--- refuses.
+-- A call of the C interface: the word is that of the judgement, and what is left, where old stood, is what the call leaves.
 pub record Coded {X : Type 0} (call : Call X) (old : X) (code : ℕ) (left : X) : Type 0 where
   pub code-is : code ≡ codeOf (judgement call)
-  pub left-is : left ≡ after (judgement call) (call .gives) old
+  pub left-is : left ≡ leftBy call old

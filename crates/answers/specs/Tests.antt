@@ -16,9 +16,9 @@ pub data Test : Type 0 where
   unless : Test → Test
   somewhere : (n : ℕ) → (ℕ → Test) → Test
 
--- not low to high
-abbrev pub outside : (x low high : ℕ) → Test
-outside x low high = either (under x low) (over x high)
+-- low to high
+abbrev pub within : (x low high : ℕ) → Test
+within x low high = both (reaches x low) (reaches high x)
 
 -- what it says
 abbrev pub Says : Test → Type 0

@@ -1,12 +1,14 @@
 -- What the calls of this crate answer. Order: place 1, 2, 6, and the reverse question alike. Assumes nothing.
 use Prim.Native.Nat.{ℕ}
 use mathlib.Core.Bool.{_||_}
+use mathlib.Core.List.{[], _∷_}
 use Rattle.laws.specs.Choice.{if_then_else_, _≤?_}
 use Rattle.kinds.specs.Kinds.{lanes, entryOf, kindOf, roleOf}
 use Rattle.kinds.specs.Places.{placeOf}
 use Rattle.kinds.specs.Rule.{layoutOf, elementsOf, majors, minors, placeIn, holderIn, holderOf}
 use Rattle.answers.specs.Refusals.{Answer, given, refusal, refused}
-use Rattle.kinds.specs.Refusals.{judged, noElement, noEntry}
+use Rattle.answers.specs.Calls.{_when_, Call, answer}
+use Rattle.kinds.specs.Refusals.{unknownKind, unknownRole, elementOutside, entryOutside, judged}
 use Rattle.kinds.specs.declared.Layout.{Layout}
 use Rattle.kinds.specs.declared.Known.{Known}
 use Rattle.kinds.specs.declared.Known.the-variants.{As, Refused as Known·Refused}
@@ -33,18 +35,32 @@ unfoldable pub layoutAnswer : (kind role : ℕ) → Answer Layout
 layoutAnswer k r = judged k r (given (layoutOf (entryOf k) (roleOf r)))
 
 -- the place of an element: row and column
+abbrev pub placeCall : (kind role lane i : ℕ) → Call (ℕ × ℕ)
+placeCall k r lane i = record {
+  refusals =
+      1 when unknownKind k
+      ∷ 2 when unknownRole r
+      ∷ 6 when elementOutside (entryOf k) (roleOf r) lane i
+      ∷ [];
+  gives = placeOf (kindOf k) (roleOf r) lane i;
+}
+
 unfoldable pub placeAnswer : (kind role lane i : ℕ) → Answer (ℕ × ℕ)
-placeAnswer k r lane i =
-    judged k r
-    (if noElement (entryOf k) (roleOf r) lane i then refusal 6 0
-    else given (placeOf (kindOf k) (roleOf r) lane i))
+placeAnswer k r lane i = answer (placeCall k r lane i)
 
 -- the reverse question, whose place it is: lane and element
+abbrev pub findCall : (kind role row column : ℕ) → Call (ℕ × ℕ)
+findCall k r row column = record {
+  refusals =
+      1 when unknownKind k
+      ∷ 2 when unknownRole r
+      ∷ 6 when entryOutside (entryOf k) (roleOf r) row column
+      ∷ [];
+  gives = holderOf (layoutOf (entryOf k) (roleOf r)) (row, column);
+}
+
 unfoldable pub findAnswer : (kind role row column : ℕ) → Answer (ℕ × ℕ)
-findAnswer k r row column =
-    judged k r
-    (if noEntry (entryOf k) (roleOf r) row column then refusal 6 0
-    else given (holderOf (layoutOf (entryOf k) (roleOf r)) (row, column)))
+findAnswer k r row column = answer (findCall k r row column)
 
 -- the same two in a layout; the reverse question by its major and minor number
 unfoldable pub placeBy : Layout → (lane i : ℕ) → Answer (ℕ × ℕ)

@@ -1,9 +1,10 @@
 // The kinds of document 01: their table, the place of an element, and the reverse question.
 ghost use mathlib.Core.Path.{_≡_};
 ghost use Prim.Native.Nat.{_<_, _≤_};
+ghost use Rattle.answers.specs.Contracts.{Replies};
 ghost use Rattle.kinds.specs.Kinds.{kinds, entryOf, roleOf, lanes};
 ghost use Rattle.kinds.specs.Rule.{spread, sideOf, layoutOf, layoutsOf, elementsOf, Laid};
-ghost use Rattle.kinds.specs.Answers.{toldLayout, toldPlace, toldHolder, layoutAnswer, placeAnswer, placeBy, findAnswer, findBy};
+ghost use Rattle.kinds.specs.Answers.{toldLayout, toldPlace, toldHolder, layoutAnswer, placeCall, placeBy, findCall, findBy};
 use answers::Refusal;
 
 pub mod rule;
@@ -221,7 +222,7 @@ fn place_in(f: Layout, lane: Lane, element: Element) -> Placed
 
 // The place of an element: its row and column.
 pub fn place(kind: Kind, role: Role, lane: Lane, element: Element) -> Placed
-    ensures { λ r. ⌜ toldPlace r ≡ placeAnswer (kind .0) (role .0) (lane .0) (element .0) ⌝ }
+    ensures { λ r. ⌜ Replies (placeCall (kind .0) (role .0) (lane .0) (element .0)) (toldPlace r) ⌝ }
 {
     match layout_of(kind, role) {
         Known::As(f) => place_in(f, lane, element),
@@ -248,7 +249,7 @@ fn find_in(f: Layout, x: u32, y: u32) -> Held
 
 // The reverse question: the lane and the element whose place is at a row and a column.
 pub fn find(kind: Kind, role: Role, row: Row, column: Column) -> Held
-    ensures { λ r. ⌜ toldHolder r ≡ findAnswer (kind .0) (role .0) (row .0) (column .0) ⌝ }
+    ensures { λ r. ⌜ Replies (findCall (kind .0) (role .0) (row .0) (column .0)) (toldHolder r) ⌝ }
 {
     match layout_of(kind, role) {
         Known::As(f) => {

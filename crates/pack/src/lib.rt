@@ -7,10 +7,11 @@ ghost use Rattle.laws.specs.Toward.{stores, Brings, Below};
 ghost use Rattle.kinds.specs.Kinds.{lanes};
 ghost use Rattle.kinds.specs.Rule.{Laid, rowsOf, columnsOf};
 ghost use Rattle.answers.specs.Refusals.{told, after};
-ghost use Rattle.warp.specs.Buffers.{wordAt, packed, packedOf, Fitting};
+ghost use Rattle.answers.specs.Contracts.{Meets};
+ghost use Rattle.warp.specs.Buffers.{wordAt, packed, Fitting};
 ghost use Rattle.warp.specs.Stretches.{stretchesOf, holdingOf, WordsOfQuad};
 ghost use Rattle.pack.specs.Workers.{Packs};
-ghost use Rattle.pack.specs.Answers.{firstWide, packBy, packAnswer};
+ghost use Rattle.pack.specs.Answers.{firstWide, packBy, packCall};
 use answers::Refusal;
 use answers::Verdict;
 use kinds::Kind;
@@ -132,8 +133,7 @@ fn pack_in(f: Layout, matrix: &[u64], words: &mut [u32]) -> Verdict
 
 // The row-major matrix of bit patterns to lane words.
 pub fn pack(kind: Kind, role: Role, matrix: &[u64], words: &mut [u32]) -> Verdict
-    ensures { λ r. ⌜ told r ≡ packAnswer (kind .0) (role .0) (now (matrix .entry)) (length (now (words .entry))) ⌝ }
-    ensures { λ r. ⌜ now (words .exit) ≡ after (told r) (packedOf (kind .0) (role .0) (now (matrix .entry))) (now (words .entry)) ⌝ }
+    ensures { λ r. ⌜ Meets (packCall (kind .0) (role .0) (now (matrix .entry)) (now (words .entry))) (now (words .entry)) r (now (words .exit)) ⌝ }
 {
     match kinds::layout_of(kind, role) {
         Known::As(f) => pack_in(f, matrix, words),

@@ -1,10 +1,14 @@
 -- Document 01, 'Refusal numbers': open 1, 3, 4, 5 (C); feed 10, 9, 5 (A, B); read 10, 5 (D). Assumes nothing.
 use Prim.Native.Nat.{ℕ}
-use mathlib.Core.Bool.{Bool, not, _&&_, _||_}
-use Rattle.laws.specs.Choice.{if_then_else_, _<?_, _≤?_, _=?_}
-use Rattle.answers.specs.Refusals.{Answer, given, refusal}
+use mathlib.Core.Bool.{Bool}
+use mathlib.Core.List.{List, [], _∷_}
+use lib.ListN.{length}
+use Rattle.answers.specs.Refusals.{Answer}
+use Rattle.answers.specs.Tests.{Test, over, reaches, differs, either, unless, within, holds}
+use Rattle.answers.specs.Calls.{Line, _when_, _at_when_, _then_, first, Call}
 use Rattle.warp.specs.Buffers.{wordsNeeded}
-use Rattle.step.specs.Answers.{noSelectors, selected}
+use Rattle.step.specs.Answers.{badSelectors, selectorRefusals}
+use Rattle.run.specs.Runs.{openedRun, fedRun, usedOf}
 use Rattle.run.specs.declared.Run.{Run}
 
 -- at most 4,096 blocks
@@ -12,29 +16,55 @@ abbrev pub maxBlocks : ℕ
 maxBlocks = 4096
 
 -- 9: the run already has 4,096 blocks
+abbrev pub fullRun : Run → Test
+fullRun run = reaches (run .blocks) maxBlocks
+
 abbrev pub full : Run → Bool
-full run = maxBlocks ≤? run .blocks
+full run = holds (fullRun run)
 
 -- 10: a run's kind is not 1 to 5, its selectors break 4, or its count is over 4,096
+abbrev pub badRun : Run → Test
+badRun run =
+    either
+    (either (unless (within (run .kind .0) 1 5)) (badSelectors (run .kind .0) (run .signs .0) (run .mode .0)))
+    (over (run .blocks) maxBlocks)
+
 abbrev pub noRun : Run → Bool
-noRun run = not (1 ≤? run .kind .0 && run .kind .0 ≤? 5) || noSelectors (run .kind .0) (run .signs .0) (run .mode .0) || maxBlocks <? run .blocks
+noRun run = holds (badRun run)
+
+-- by the lengths of the buffers
+abbrev pub openRefusals : (kind signs mode c : ℕ) → List Line
+openRefusals kind signs mode c = selectorRefusals kind signs mode then 5 at 0 when differs c (wordsNeeded kind 2) ∷ []
+
+abbrev pub feedRefusals : Run → (a b : ℕ) → List Line
+feedRefusals run a b =
+    10 when badRun run
+    ∷ 9 when fullRun run
+    ∷ 5 at 0 when differs a (wordsNeeded (run .kind .0) 0)
+    ∷ 5 at 1 when differs b (wordsNeeded (run .kind .0) 1)
+    ∷ []
+
+abbrev pub readRefusals : Run → (d : ℕ) → List Line
+readRefusals run d =
+    10 when badRun run
+    ∷ 5 at 0 when differs d (wordsNeeded (run .kind .0) 2)
+    ∷ []
+
+abbrev pub openCall : (kind signs mode : ℕ) (c : List ℕ) → Call Run
+openCall kind signs mode c = record { refusals = openRefusals kind signs mode (length c); gives = openedRun kind signs mode c }
+
+abbrev pub feedCall : (run : Run) (a b : List ℕ) → Call Run
+feedCall run a b = record { refusals = feedRefusals run (length a) (length b); gives = fedRun run a b }
+
+-- a read gives D, and the run as it was
+abbrev pub readCall : (run : Run) (d : List ℕ) → Call (List ℕ × Run)
+readCall run d = record { refusals = readRefusals run (length d); gives = (usedOf run, run) }
 
 unfoldable pub openAnswer : (kind signs mode c : ℕ) → Answer (Unit {0})
-openAnswer kind signs mode c =
-    selected kind signs mode
-    (if not (c =? wordsNeeded kind 2) then refusal 5 0
-    else given tt)
+openAnswer kind signs mode c = first (openRefusals kind signs mode c) tt
 
 unfoldable pub feedAnswer : Run → (a b : ℕ) → Answer (Unit {0})
-feedAnswer run a b =
-    if noRun run then refusal 10 0
-    else if full run then refusal 9 0
-    else if not (a =? wordsNeeded (run .kind .0) 0) then refusal 5 0
-    else if not (b =? wordsNeeded (run .kind .0) 1) then refusal 5 1
-    else given tt
+feedAnswer run a b = first (feedRefusals run a b) tt
 
 unfoldable pub readAnswer : Run → (d : ℕ) → Answer (Unit {0})
-readAnswer run d =
-    if noRun run then refusal 10 0
-    else if not (d =? wordsNeeded (run .kind .0) 2) then refusal 5 0
-    else given tt
+readAnswer run d = first (readRefusals run d) tt

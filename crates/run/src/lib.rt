@@ -3,11 +3,12 @@ ghost use mathlib.Core.Path.{_≡_};
 ghost use Prim.Native.Nat.{_<_};
 ghost use lib.ListN.{length};
 ghost use Rattle.laws.specs.Choice.{if_then_else_};
-ghost use Rattle.answers.specs.Refusals.{told, after, given, refusal};
+ghost use Rattle.answers.specs.Refusals.{told, given, refusal};
+ghost use Rattle.answers.specs.Contracts.{Meets};
 ghost use Rattle.warp.specs.Buffers.{wordsNeeded};
 ghost use Rattle.step.specs.Answers.{Ready};
 ghost use Rattle.run.specs.Runs.{openedRun, zeroRun, usedOf, fedRun};
-ghost use Rattle.run.specs.Answers.{maxBlocks, noRun, openAnswer, feedAnswer, readAnswer};
+ghost use Rattle.run.specs.Answers.{maxBlocks, noRun, openAnswer, feedAnswer, readAnswer, openCall, feedCall, readCall};
 use answers::Refusal;
 use answers::Verdict;
 use kinds::Kind;
@@ -77,8 +78,7 @@ impl Run {
 
     // A run whose sums are C's words.
     pub fn open(kind: Kind, signs: Signs, mode: Mode, c: &[u32]) -> Fed
-        ensures { λ r. ⌜ told (r .verdict) ≡ openAnswer (kind .0) (signs .0) (mode .0) (length (now (c .entry))) ⌝ }
-        ensures { λ r. ⌜ r .run ≡ after (told (r .verdict)) (openedRun (kind .0) (signs .0) (mode .0) (now (c .entry))) zeroRun ⌝ }
+        ensures { λ r. ⌜ Meets (openCall (kind .0) (signs .0) (mode .0) (now (c .entry))) zeroRun (r .verdict) (r .run) ⌝ }
     {
         let verdict = Run::judge_open(kind, signs, mode, c.len());
         match verdict {
@@ -165,8 +165,7 @@ impl Run {
 
     // The run with one block more.
     pub fn feed(self, a: &[u32], b: &[u32]) -> Fed
-        ensures { λ r. ⌜ told (r .verdict) ≡ feedAnswer self (length (now (a .entry))) (length (now (b .entry))) ⌝ }
-        ensures { λ r. ⌜ r .run ≡ after (told (r .verdict)) (fedRun self (now (a .entry)) (now (b .entry))) self ⌝ }
+        ensures { λ r. ⌜ Meets (feedCall self (now (a .entry)) (now (b .entry))) self (r .verdict) (r .run) ⌝ }
     {
         let verdict = self.judge_feed(a.len(), b.len());
         match verdict {
@@ -195,9 +194,7 @@ impl Run {
 
     // The used sums, into D; the run is as it was.
     pub fn read(self, d: &mut [u32]) -> Fed
-        ensures { λ r. ⌜ told (r .verdict) ≡ readAnswer self (length (now (d .entry))) ⌝ }
-        ensures { λ r. ⌜ now (d .exit) ≡ after (told (r .verdict)) (usedOf self) (now (d .entry)) ⌝ }
-        ensures { λ r. ⌜ r .run ≡ self ⌝ }
+        ensures { λ r. ⌜ Meets (readCall self (now (d .entry))) (now (d .entry), self) (r .verdict) (now (d .exit), r .run) ⌝ }
     {
         let n = d.len();
         let verdict = self.judge_read(n);

@@ -4,8 +4,9 @@ ghost use Prim.Native.Nat.{_-_, _^_, _<_, _≤_};
 ghost use lib.ListN.{length};
 ghost use Rattle.kinds.specs.Kinds.{kinds};
 ghost use Rattle.answers.specs.Refusals.{told, after, given};
+ghost use Rattle.answers.specs.Contracts.{Meets};
 ghost use Rattle.step.specs.Step.{unsignedA, unsignedB, stepped};
-ghost use Rattle.step.specs.Answers.{selected, fourBuffers, stepAnswer, plainAnswer, Ready, Sized};
+ghost use Rattle.step.specs.Answers.{selected, fourBuffers, stepCall, plainCall, Ready, Sized};
 ghost use Rattle.sums.specs.Sums.{offsetOf};
 use answers::Refusal;
 use answers::Verdict;
@@ -177,8 +178,7 @@ pub fn step(
     c: &[u32],
     d: &mut [u32],
 ) -> Verdict
-    ensures { λ r. ⌜ told r ≡ stepAnswer (kind .0) (signs .0) (mode .0) (length (now (a .entry))) (length (now (b .entry))) (length (now (c .entry))) (length (now (d .entry))) ⌝ }
-    ensures { λ r. ⌜ now (d .exit) ≡ after (told r) (stepped (kind .0) (signs .0) (mode .0) (now (a .entry)) (now (b .entry)) (now (c .entry))) (now (d .entry)) ⌝ }
+    ensures { λ r. ⌜ Meets (stepCall (kind .0) (signs .0) (mode .0) (now (a .entry)) (now (b .entry)) (now (c .entry)) (now (d .entry))) (now (d .entry)) r (now (d .exit)) ⌝ }
 {
     let verdict = judge(kind, signs, mode);
     match verdict {
@@ -189,8 +189,7 @@ pub fn step(
 
 // The plain step takes no selectors: signs 0, mode 0.
 pub fn plain_step(kind: Kind, a: &[u32], b: &[u32], c: &[u32], d: &mut [u32]) -> Verdict
-    ensures { λ r. ⌜ told r ≡ plainAnswer (kind .0) (length (now (a .entry))) (length (now (b .entry))) (length (now (c .entry))) (length (now (d .entry))) ⌝ }
-    ensures { λ r. ⌜ now (d .exit) ≡ after (told r) (stepped (kind .0) 0 0 (now (a .entry)) (now (b .entry)) (now (c .entry))) (now (d .entry)) ⌝ }
+    ensures { λ r. ⌜ Meets (plainCall (kind .0) (now (a .entry)) (now (b .entry)) (now (c .entry)) (now (d .entry))) (now (d .entry)) r (now (d .exit)) ⌝ }
 {
     step(kind, Signs(0), Mode(0), a, b, c, d)
 }

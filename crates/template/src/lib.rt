@@ -1,9 +1,9 @@
 // Soft templates: records of 256 bytes that hold B of kind 3, row-major, read into lane words and written back.
 ghost use mathlib.Core.Path.{_≡_};
 ghost use lib.ListN.{length};
-ghost use Rattle.answers.specs.Refusals.{told, after};
+ghost use Rattle.answers.specs.Contracts.{Meets};
 ghost use Rattle.warp.specs.Buffers.{Fitting};
-ghost use Rattle.template.specs.Templates.{templateWords, templateRecord, readAnswer, writeAnswer};
+ghost use Rattle.template.specs.Templates.{readCall, writeCall};
 use answers::Refusal;
 use answers::Verdict;
 use kinds::Kind;
@@ -18,8 +18,7 @@ pub const WORDS: usize = 64;
 
 // A record to the lane words of its matrix.
 pub fn read(record: &[u8], words: &mut [u32]) -> Verdict
-    ensures { λ r. ⌜ told r ≡ readAnswer (length (now («record» .entry))) (length (now (words .entry))) ⌝ }
-    ensures { λ r. ⌜ now (words .exit) ≡ after (told r) (templateWords (now («record» .entry))) (now (words .entry)) ⌝ }
+    ensures { λ r. ⌜ Meets (readCall (now («record» .entry)) (now (words .entry))) (now (words .entry)) r (now (words .exit)) ⌝ }
 {
     if record.len() != BYTES {
         return Verdict::Refused(Refusal::WrongLength(0));
@@ -36,8 +35,7 @@ pub fn read(record: &[u8], words: &mut [u32]) -> Verdict
 
 // Lane words to the record of their matrix.
 pub fn write(words: &[u32], record: &mut [u8]) -> Verdict
-    ensures { λ r. ⌜ told r ≡ writeAnswer (length (now (words .entry))) (length (now («record» .entry))) ⌝ }
-    ensures { λ r. ⌜ now («record» .exit) ≡ after (told r) (templateRecord (now (words .entry))) (now («record» .entry)) ⌝ }
+    ensures { λ r. ⌜ Meets (writeCall (now (words .entry)) (now («record» .entry))) (now («record» .entry)) r (now («record» .exit)) ⌝ }
 {
     if words.len() != WORDS {
         return Verdict::Refused(Refusal::WrongLength(0));

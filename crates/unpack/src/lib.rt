@@ -6,11 +6,12 @@ ghost use Rattle.laws.specs.Fields.{field};
 ghost use Rattle.kinds.specs.Kinds.{lanes};
 ghost use Rattle.kinds.specs.Rule.{Laid};
 ghost use Rattle.answers.specs.Refusals.{told, after};
+ghost use Rattle.answers.specs.Contracts.{Meets};
 ghost use Rattle.laws.specs.Toward.{stores, Brings, Below};
-ghost use Rattle.warp.specs.Buffers.{elementAt, unpacked, unpackedOf};
+ghost use Rattle.warp.specs.Buffers.{elementAt, unpacked};
 ghost use Rattle.warp.specs.Stretches.{sizeOf, stretchesOf, OfLane, OfQuad};
 ghost use Rattle.unpack.specs.Workers.{Unpacks};
-ghost use Rattle.unpack.specs.Answers.{unpackBy, unpackAnswer};
+ghost use Rattle.unpack.specs.Answers.{unpackBy, unpackCall};
 use answers::Refusal;
 use answers::Verdict;
 use kinds::Kind;
@@ -119,8 +120,7 @@ fn unpack_in(f: Layout, words: &[u32], matrix: &mut [u64]) -> Verdict
 
 // Lane words to the row-major matrix of bit patterns.
 pub fn unpack(kind: Kind, role: Role, words: &[u32], matrix: &mut [u64]) -> Verdict
-    ensures { λ r. ⌜ told r ≡ unpackAnswer (kind .0) (role .0) (length (now (words .entry))) (length (now (matrix .entry))) ⌝ }
-    ensures { λ r. ⌜ now (matrix .exit) ≡ after (told r) (unpackedOf (kind .0) (role .0) (now (words .entry))) (now (matrix .entry)) ⌝ }
+    ensures { λ r. ⌜ Meets (unpackCall (kind .0) (role .0) (now (words .entry)) (now (matrix .entry))) (now (matrix .entry)) r (now (matrix .exit)) ⌝ }
 {
     match kinds::layout_of(kind, role) {
         Known::As(f) => unpack_in(f, words, matrix),

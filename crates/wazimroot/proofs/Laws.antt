@@ -1,39 +1,12 @@
--- What a call tells is its answer, so the code of the one is the code of the other, and so is what it leaves. Assumes nothing.
-use mathlib.Core.Path.{_≡_, refl, sym, ap, _∙_}
+-- The words that the C interface writes: a pair, and a run's. Assumes nothing.
+use mathlib.Core.Path.{_≡_, refl, ap, _∙_}
 use mathlib.Core.List.{List, [], _∷_, _++_}
-use Prim.Native.Nat.{ℕ, _+_, _-_, _*_, _^_, _≤_}
+use Prim.Native.Nat.{ℕ, _-_, _≤_}
 use native.Mathlib.Omega.{arith}
 use lib.ListN.{length, set, take, drop, length-drop, drop-of-length-le}
 use lib.Seq.{length-take-le, take-all, drop-at}
-use Rattle.answers.specs.Refusals.{Answer, given, refusal, told, after}
 use Rattle.run.specs.declared.Run.{Run}
-use Rattle.answers.specs.Contracts.{codeOf}
-use Rattle.wazimroot.specs.Codes.{pairAfter}
 use Rattle.wazimroot.specs.Words.{wordsOf}
-
--- a call with a verdict, told as p, where its answer is q
-module _ {p q : Answer (Unit {0})} (is : p ≡ q) where
-  pub told-code : {r : ℕ} → r ≡ codeOf p → r ≡ codeOf q
-  told-code e = e ∙ ap codeOf is
-
-  module _ {B : Type 0} (new old : B) where
-    pub told-left : {x : B} → x ≡ after p new old → x ≡ after q new old
-    told-left e = e ∙ ap (λ (t : Answer (Unit {0})). after t new old) is
-
--- a call that was accepted, and one that was refused
-module _ {q : Answer (Unit {0})} where
-  pub given-code : q ≡ given tt → 0 ≡ codeOf q
-  given-code e = sym (ap codeOf e)
-
-  pub refused-code : {n d r : ℕ} → q ≡ refusal n d → r ≡ n + d * 2 ^ 32 → r ≡ codeOf q
-  refused-code e f = f ∙ sym (ap codeOf e)
-
-  module _ {B : Type 0} (new old : B) where
-    pub given-left : {x : B} → q ≡ given tt → x ≡ new → x ≡ after q new old
-    given-left e f = f ∙ sym (ap (λ (t : Answer (Unit {0})). after t new old) e)
-
-    pub refused-left : {n d : ℕ} → q ≡ refusal n d → old ≡ after q new old
-    refused-left e = sym (ap (λ (t : Answer (Unit {0})). after t new old) e)
 
 -- a call that writes two numbers
 pub pair : (xs : List ℕ) (a b : ℕ) → length xs ≡ 2 → set (set xs 0 a) 1 b ≡ a ∷ b ∷ []
@@ -41,13 +14,6 @@ pair [] a b e = absurd (omega arith)
 pair (x ∷ []) a b e = absurd (omega arith)
 pair (x ∷ y ∷ []) a b e = refl
 pair (x ∷ y ∷ z ∷ xs) a b e = absurd (omega arith)
-
-module _ {q : Answer (ℕ × ℕ)} where
-  pub pair-given : {x : ℕ × ℕ} {out : List ℕ} (old : List ℕ) → q ≡ given x → out ≡ x .0 ∷ x .1 ∷ [] → (0 ≡ codeOf q) × (out ≡ pairAfter q old)
-  pair-given old e f = (sym (ap codeOf e), f ∙ sym (ap (λ (t : Answer (ℕ × ℕ)). pairAfter t old) e))
-
-  pub pair-refused : {n d r : ℕ} (old : List ℕ) → q ≡ refusal n d → r ≡ n + d * 2 ^ 32 → (r ≡ codeOf q) × (old ≡ pairAfter q old)
-  pair-refused old e f = (f ∙ sym (ap codeOf e), sym (ap (λ (t : Answer (ℕ × ℕ)). pairAfter t old) e))
 
 -- a run's words: the first four, and the sums behind them
 pub four : (xs : List ℕ) (a b c d : ℕ) → 4 ≤ length xs → set (set (set (set xs 0 a) 1 b) 2 c) 3 d ≡ a ∷ b ∷ c ∷ d ∷ drop 4 xs

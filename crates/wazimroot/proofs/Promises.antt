@@ -38,7 +38,7 @@ after-words (given x) new old = refl
 after-words (refusal n d) new old = refl
 
 pub fed-words : (run : Run) (xs : List Block) → fedAllWords (wordsOf run) xs ≡ wordsOf (fedAll run xs)
-unfolding fedAllWords fedAll
+unfolding fedAllWords fedAll feedAnswer
 fed-words run [] = refl
 fed-words run (x ∷ xs) =
     ap (λ (ws : List ℕ). fedAllWords ws xs)
@@ -50,13 +50,15 @@ fed-words run (x ∷ xs) =
 -- in D what a read of that run leaves, whose entries are its sums (`read-sums`).
 module _ (kind signs mode : ℕ) (c : List ℕ) (opened : openAnswer kind signs mode (length c) ≡ given tt) (xs : List Block) where
   pub words-hold : runIn (fedAllWords (openedWords kind signs mode c) xs) ≡ fedAll (openedRun kind signs mode c) xs
+  unfolding openAnswer
   words-hold =
-      ap (λ (q : Answer (Unit {0})). runIn (fedAllWords (wordsOf (after q (openedRun kind signs mode c) zeroRun)) xs)) opened
+      ap (λ (q : Answer (Unit {0})). runIn (fedAllWords (after q (wordsOf (openedRun kind signs mode c)) (wordsOf zeroRun)) xs)) opened
       ∙ ap runIn (fed-words (openedRun kind signs mode c) xs)
       ∙ run-back (fedAll (openedRun kind signs mode c) xs)
 
   pub words-read : (d : List ℕ) → readWords (fedAllWords (openedWords kind signs mode c) xs) d
       ≡ after (readAnswer (fedAll (openedRun kind signs mode c) xs) (length d)) (usedOf (fedAll (openedRun kind signs mode c) xs)) d
+  unfolding readAnswer
   words-read d = ap (λ (r : Run). after (readAnswer r (length d)) (usedOf r) d) words-hold
 
 -- The answer's word: number and detail are its halves, as WZ_NUMBER and WZ_DETAIL take them,

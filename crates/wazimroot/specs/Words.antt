@@ -1,12 +1,16 @@
--- A run as the 132 words of the C interface: kind, signs, mode, number, 128 sums. Assumes nothing.
+-- What the C interface writes: a pair, and a run as 132 words: kind, signs, mode, number, 128 sums. Assumes nothing.
 use Prim.Native.Nat.{ℕ}
 use mathlib.Core.List.{List, [], _∷_}
-use lib.ListN.{length, getD, drop}
-use Rattle.answers.specs.Refusals.{after}
-use Rattle.run.specs.Runs.{runOf, openedRun, zeroRun, fedRun, usedOf}
-use Rattle.run.specs.Answers.{openAnswer, feedAnswer, readAnswer}
+use lib.ListN.{getD, drop}
+use Rattle.answers.specs.Calls.{Call, giving, leftBy}
+use Rattle.run.specs.Runs.{runOf, zeroRun}
+use Rattle.run.specs.Answers.{openCall, feedCall, readCall}
 use Rattle.run.specs.Blocks.{Block}
 use Rattle.run.specs.declared.Run.{Run}
+
+-- the two numbers that place and the reverse question write: row and column, or lane and element
+abbrev pub pairOf : ℕ × ℕ → List ℕ
+pairOf x = x .0 ∷ x .1 ∷ []
 
 unfoldable pub runIn : List ℕ → Run
 runIn ws = runOf (getD ws 0 0) (getD ws 1 0) (getD ws 2 0) (getD ws 3 0) (drop 4 ws)
@@ -14,15 +18,25 @@ runIn ws = runOf (getD ws 0 0) (getD ws 1 0) (getD ws 2 0) (getD ws 3 0) (drop 4
 unfoldable pub wordsOf : Run → List ℕ
 wordsOf run = run .kind .0 ∷ run .signs .0 ∷ run .mode .0 ∷ run .blocks ∷ run .sums
 
+-- opening, feeding and reading, a run being its words
+abbrev pub openInWords : (kind signs mode : ℕ) (c : List ℕ) → Call (List ℕ)
+openInWords kind signs mode c = giving wordsOf (openCall kind signs mode c)
+
+abbrev pub feedInWords : (ws a b : List ℕ) → Call (List ℕ)
+feedInWords ws a b = giving wordsOf (feedCall (runIn ws) a b)
+
+abbrev pub readInWords : (ws d : List ℕ) → Call (List ℕ)
+readInWords ws d = giving (λ left. left .0) (readCall (runIn ws) d)
+
 -- what wz_open leaves in the words, wz_feed in words ws, and wz_read of words ws in D
 abbrev pub openedWords : (kind signs mode : ℕ) → (c : List ℕ) → List ℕ
-openedWords kind signs mode c = wordsOf (after (openAnswer kind signs mode (length c)) (openedRun kind signs mode c) zeroRun)
+openedWords kind signs mode c = leftBy (openInWords kind signs mode c) (wordsOf zeroRun)
 
 abbrev pub fedWords : (ws a b : List ℕ) → List ℕ
-fedWords ws a b = after (feedAnswer (runIn ws) (length a) (length b)) (wordsOf (fedRun (runIn ws) a b)) ws
+fedWords ws a b = leftBy (feedInWords ws a b) ws
 
 abbrev pub readWords : (ws d : List ℕ) → List ℕ
-readWords ws d = after (readAnswer (runIn ws) (length d)) (usedOf (runIn ws)) d
+readWords ws d = leftBy (readInWords ws d) d
 
 -- the words after blocks, fed one after the other
 unfoldable pub fedAllWords : List ℕ → List Block → List ℕ

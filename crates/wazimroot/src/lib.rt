@@ -3,19 +3,17 @@ ghost use mathlib.Core.Path.{_≡_};
 ghost use Prim.Native.Nat.{_+_, _*_, _^_};
 ghost use mathlib.Core.List.{[], _∷_};
 ghost use lib.ListN.{length, drop};
-ghost use Rattle.answers.specs.Refusals.{numberOf, detailOf, told, after};
-ghost use Rattle.kinds.specs.Answers.{placeAnswer, findAnswer};
-ghost use Rattle.warp.specs.Buffers.{unpackedOf, packedOf};
-ghost use Rattle.unpack.specs.Answers.{unpackAnswer};
-ghost use Rattle.pack.specs.Answers.{packAnswer};
-ghost use Rattle.template.specs.Templates.{templateWords, templateRecord, readAnswer as recordReadAnswer, writeAnswer as recordWriteAnswer};
-ghost use Rattle.step.specs.Step.{stepped};
-ghost use Rattle.step.specs.Answers.{stepAnswer, plainAnswer};
-ghost use Rattle.run.specs.Answers.{openAnswer, feedAnswer, readAnswer};
+ghost use Rattle.answers.specs.Refusals.{numberOf, detailOf, told};
+ghost use Rattle.kinds.specs.Answers.{placeCall, findCall};
+ghost use Rattle.unpack.specs.Answers.{unpackCall};
+ghost use Rattle.pack.specs.Answers.{packCall};
+ghost use Rattle.template.specs.Templates.{readCall, writeCall};
+ghost use Rattle.step.specs.Answers.{stepCall, plainCall};
+ghost use Rattle.run.specs.Runs.{zeroRun};
 ghost use Rattle.scale.specs.Answers.{scaleCall};
+ghost use Rattle.answers.specs.Calls.{giving};
 ghost use Rattle.answers.specs.Contracts.{codeOf, Coded};
-ghost use Rattle.wazimroot.specs.Codes.{pairAfter};
-ghost use Rattle.wazimroot.specs.Words.{runIn, wordsOf, openedWords, fedWords, readWords};
+ghost use Rattle.wazimroot.specs.Words.{pairOf, runIn, wordsOf, openInWords, feedInWords, readInWords};
 use answers::Refusal;
 use answers::Verdict;
 use kinds::Column;
@@ -61,8 +59,7 @@ fn put_pair(out: &mut [u32], first: u32, second: u32)
 // Row and column of an element.
 #[no_mangle]
 pub extern "C" fn wz_place(kind: u32, role: u32, lane: u32, element: u32, out: &mut [u32; 2]) -> u64
-    ensures { λ r. ⌜ r ≡ codeOf (placeAnswer kind role lane element) ⌝ }
-    ensures { λ _. ⌜ now (out .exit) ≡ pairAfter (placeAnswer kind role lane element) (now (out .entry)) ⌝ }
+    ensures { λ r. ⌜ Coded (giving pairOf (placeCall kind role lane element)) (now (out .entry)) r (now (out .exit)) ⌝ }
 {
     match kinds::place(Kind(kind), Role(role), Lane(lane), Element(element)) {
         Placed::At(row, column) => {
@@ -76,8 +73,7 @@ pub extern "C" fn wz_place(kind: u32, role: u32, lane: u32, element: u32, out: &
 // Lane and element of a place.
 #[no_mangle]
 pub extern "C" fn wz_find(kind: u32, role: u32, row: u32, column: u32, out: &mut [u32; 2]) -> u64
-    ensures { λ r. ⌜ r ≡ codeOf (findAnswer kind role row column) ⌝ }
-    ensures { λ _. ⌜ now (out .exit) ≡ pairAfter (findAnswer kind role row column) (now (out .entry)) ⌝ }
+    ensures { λ r. ⌜ Coded (giving pairOf (findCall kind role row column)) (now (out .entry)) r (now (out .exit)) ⌝ }
 {
     match kinds::find(Kind(kind), Role(role), Row(row), Column(column)) {
         Held::By(lane, element) => {
@@ -91,8 +87,7 @@ pub extern "C" fn wz_find(kind: u32, role: u32, row: u32, column: u32, out: &mut
 // Lane words to a matrix.
 #[no_mangle]
 pub extern "C" fn wz_unpack(kind: u32, role: u32, words: &[u32], matrix: &mut [u64]) -> u64
-    ensures { λ r. ⌜ r ≡ codeOf (unpackAnswer kind role (length (now (words .entry))) (length (now (matrix .entry)))) ⌝ }
-    ensures { λ _. ⌜ now (matrix .exit) ≡ after (unpackAnswer kind role (length (now (words .entry))) (length (now (matrix .entry)))) (unpackedOf kind role (now (words .entry))) (now (matrix .entry)) ⌝ }
+    ensures { λ r. ⌜ Coded (unpackCall kind role (now (words .entry)) (now (matrix .entry))) (now (matrix .entry)) r (now (matrix .exit)) ⌝ }
 {
     code_of(unpack::unpack(Kind(kind), Role(role), words, matrix))
 }
@@ -100,8 +95,7 @@ pub extern "C" fn wz_unpack(kind: u32, role: u32, words: &[u32], matrix: &mut [u
 // A matrix to lane words.
 #[no_mangle]
 pub extern "C" fn wz_pack(kind: u32, role: u32, matrix: &[u64], words: &mut [u32]) -> u64
-    ensures { λ r. ⌜ r ≡ codeOf (packAnswer kind role (now (matrix .entry)) (length (now (words .entry)))) ⌝ }
-    ensures { λ _. ⌜ now (words .exit) ≡ after (packAnswer kind role (now (matrix .entry)) (length (now (words .entry)))) (packedOf kind role (now (matrix .entry))) (now (words .entry)) ⌝ }
+    ensures { λ r. ⌜ Coded (packCall kind role (now (matrix .entry)) (now (words .entry))) (now (words .entry)) r (now (words .exit)) ⌝ }
 {
     code_of(pack::pack(Kind(kind), Role(role), matrix, words))
 }
@@ -117,8 +111,7 @@ pub extern "C" fn wz_step(
     c: &[u32],
     d: &mut [u32],
 ) -> u64
-    ensures { λ r. ⌜ r ≡ codeOf (stepAnswer kind signs mode (length (now (a .entry))) (length (now (b .entry))) (length (now (c .entry))) (length (now (d .entry)))) ⌝ }
-    ensures { λ _. ⌜ now (d .exit) ≡ after (stepAnswer kind signs mode (length (now (a .entry))) (length (now (b .entry))) (length (now (c .entry))) (length (now (d .entry)))) (stepped kind signs mode (now (a .entry)) (now (b .entry)) (now (c .entry))) (now (d .entry)) ⌝ }
+    ensures { λ r. ⌜ Coded (stepCall kind signs mode (now (a .entry)) (now (b .entry)) (now (c .entry)) (now (d .entry))) (now (d .entry)) r (now (d .exit)) ⌝ }
 {
     code_of(step::step(Kind(kind), Signs(signs), Mode(mode), a, b, c, d))
 }
@@ -126,8 +119,7 @@ pub extern "C" fn wz_step(
 // One step with no selectors.
 #[no_mangle]
 pub extern "C" fn wz_plain_step(kind: u32, a: &[u32], b: &[u32], c: &[u32], d: &mut [u32]) -> u64
-    ensures { λ r. ⌜ r ≡ codeOf (plainAnswer kind (length (now (a .entry))) (length (now (b .entry))) (length (now (c .entry))) (length (now (d .entry)))) ⌝ }
-    ensures { λ _. ⌜ now (d .exit) ≡ after (plainAnswer kind (length (now (a .entry))) (length (now (b .entry))) (length (now (c .entry))) (length (now (d .entry)))) (stepped kind 0 0 (now (a .entry)) (now (b .entry)) (now (c .entry))) (now (d .entry)) ⌝ }
+    ensures { λ r. ⌜ Coded (plainCall kind (now (a .entry)) (now (b .entry)) (now (c .entry)) (now (d .entry))) (now (d .entry)) r (now (d .exit)) ⌝ }
 {
     code_of(step::plain_step(Kind(kind), a, b, c, d))
 }
@@ -178,8 +170,7 @@ pub extern "C" fn wz_open(
     c: &[u32],
     words: &mut [u32; 132],
 ) -> u64
-    ensures { λ r. ⌜ r ≡ codeOf (openAnswer kind signs mode (length (now (c .entry)))) ⌝ }
-    ensures { λ _. ⌜ now (words .exit) ≡ openedWords kind signs mode (now (c .entry)) ⌝ }
+    ensures { λ r. ⌜ Coded (openInWords kind signs mode (now (c .entry))) (wordsOf zeroRun) r (now (words .exit)) ⌝ }
 {
     let opened = Run::open(Kind(kind), Signs(signs), Mode(mode), c);
     let run = opened.run;
@@ -191,8 +182,7 @@ pub extern "C" fn wz_open(
 // The run with one block more.
 #[no_mangle]
 pub extern "C" fn wz_feed(words: &mut [u32; 132], a: &[u32], b: &[u32]) -> u64
-    ensures { λ r. ⌜ r ≡ codeOf (feedAnswer (runIn (now (words .entry))) (length (now (a .entry))) (length (now (b .entry)))) ⌝ }
-    ensures { λ _. ⌜ now (words .exit) ≡ fedWords (now (words .entry)) (now (a .entry)) (now (b .entry)) ⌝ }
+    ensures { λ r. ⌜ Coded (feedInWords (now (words .entry)) (now (a .entry)) (now (b .entry))) (now (words .entry)) r (now (words .exit)) ⌝ }
 {
     let fed = taken(words).feed(a, b);
     let run = fed.run;
@@ -209,8 +199,7 @@ pub extern "C" fn wz_feed(words: &mut [u32; 132], a: &[u32], b: &[u32]) -> u64
 // The used sums.
 #[no_mangle]
 pub extern "C" fn wz_read(words: &[u32; 132], d: &mut [u32]) -> u64
-    ensures { λ r. ⌜ r ≡ codeOf (readAnswer (runIn (now (words .entry))) (length (now (d .entry)))) ⌝ }
-    ensures { λ _. ⌜ now (d .exit) ≡ readWords (now (words .entry)) (now (d .entry)) ⌝ }
+    ensures { λ r. ⌜ Coded (readInWords (now (words .entry)) (now (d .entry))) (now (d .entry)) r (now (d .exit)) ⌝ }
 {
     let verdict = taken(words).read(d).verdict;
     code_of(verdict)
@@ -241,8 +230,7 @@ pub extern "C" fn wz_scale(
 // A template record to its lane words.
 #[no_mangle]
 pub extern "C" fn wz_template_read(record: &[u8], words: &mut [u32]) -> u64
-    ensures { λ r. ⌜ r ≡ codeOf (recordReadAnswer (length (now («record» .entry))) (length (now (words .entry)))) ⌝ }
-    ensures { λ _. ⌜ now (words .exit) ≡ after (recordReadAnswer (length (now («record» .entry))) (length (now (words .entry)))) (templateWords (now («record» .entry))) (now (words .entry)) ⌝ }
+    ensures { λ r. ⌜ Coded (readCall (now («record» .entry)) (now (words .entry))) (now (words .entry)) r (now (words .exit)) ⌝ }
 {
     code_of(template::read(record, words))
 }
@@ -250,8 +238,7 @@ pub extern "C" fn wz_template_read(record: &[u8], words: &mut [u32]) -> u64
 // Lane words to their template record.
 #[no_mangle]
 pub extern "C" fn wz_template_write(words: &[u32], record: &mut [u8]) -> u64
-    ensures { λ r. ⌜ r ≡ codeOf (recordWriteAnswer (length (now (words .entry))) (length (now («record» .entry)))) ⌝ }
-    ensures { λ _. ⌜ now («record» .exit) ≡ after (recordWriteAnswer (length (now (words .entry))) (length (now («record» .entry)))) (templateRecord (now (words .entry))) (now («record» .entry)) ⌝ }
+    ensures { λ r. ⌜ Coded (writeCall (now (words .entry)) (now («record» .entry))) (now («record» .entry)) r (now («record» .exit)) ⌝ }
 {
     code_of(template::write(words, record))
 }

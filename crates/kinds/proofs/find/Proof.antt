@@ -2,8 +2,9 @@
 use borrow.Author.Needs.{needs}
 use mathlib.Core.Path.{sym, ap, _∙_}
 use mathlib.Core.Bool.{Bool}
+use Rattle.answers.proofs.Shows.{replies}
 use Rattle.kinds.specs.Rule.{turn}
-use Rattle.kinds.specs.Answers.{findBy}
+use Rattle.kinds.specs.Answers.{findAnswer, findBy}
 use Rattle.kinds.proofs.Answers.{known-sane, known-found, find-refused}
 use Rattle.kinds.proofs.find.Statement.{statement}
 use Rattle.kinds.proofs.find.Tie as tie
@@ -24,23 +25,28 @@ enum-known-x : tie.Need-enum-known-x
 enum-known-x c = search needs
 
 returns : tie.Need-returns
+unfolding findAnswer
 returns c =
     let s = c .before .before .before .before .before in
     let f = c .before .before .before .f .given .0 .0 in
-    c .find-in .ensures
+    replies
+    (c .find-in .ensures
     ∙ ap (λ (t : Bool). findBy f (turn t (s .before .args .row .0, s .before .args .column .0))) (sym (c .before .if1 .taken))
-    ∙ known-found _ _ _ (s .layout-of .ensures) _ (c .before .before .before .f .given .1) _ _
+    ∙ known-found _ _ _ (s .layout-of .ensures) _ (c .before .before .before .f .given .1) _ _)
 
 returns-2 : tie.Need-returns-2
+unfolding findAnswer
 returns-2 c =
     let s = c .before .before .before .before .before in
     let f = c .before .before .before .f .given .0 .0 in
-    c .find-in2 .ensures
+    replies
+    (c .find-in2 .ensures
     ∙ ap (λ (t : Bool). findBy f (turn t (s .before .args .row .0, s .before .args .column .0))) (sym (c .before .if1 .left))
-    ∙ known-found _ _ _ (s .layout-of .ensures) _ (c .before .before .before .f .given .1) _ _
+    ∙ known-found _ _ _ (s .layout-of .ensures) _ (c .before .before .before .f .given .1) _ _)
 
 returns-3 : tie.Need-returns-3
-returns-3 c = find-refused _ _ _ (c .before .before .before .layout-of .ensures) _ (c .before .x .given .1) _ _
+unfolding findAnswer
+returns-3 c = replies (find-refused _ _ _ (c .before .before .before .layout-of .ensures) _ (c .before .x .given .1) _ _)
 
 pub find-spec : {M : Type 1} → statement M
 find-spec =

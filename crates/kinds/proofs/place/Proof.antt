@@ -1,6 +1,8 @@
 -- The layout was given or refused; either way the place's answer follows from it. Assumes nothing.
 use borrow.Author.Needs.{needs}
 use mathlib.Core.Path.{_∙_}
+use Rattle.answers.proofs.Shows.{replies}
+use Rattle.kinds.specs.Answers.{placeAnswer}
 use Rattle.kinds.proofs.Answers.{known-sane, known-placed, place-refused}
 use Rattle.kinds.proofs.place.Statement.{statement}
 use Rattle.kinds.proofs.place.Tie as tie
@@ -18,10 +20,14 @@ enum-known-x : tie.Need-enum-known-x
 enum-known-x c = search needs
 
 returns : tie.Need-returns
-returns c = c .place-in .ensures ∙ known-placed _ _ _ (c .before .before .before .before .layout-of .ensures) _ (c .before .before .f .given .1) _ _
+unfolding placeAnswer
+returns c = replies (c .place-in .ensures ∙ known-placed _ _ _ (c .before .before .before .before .layout-of .ensures) _ (c .before .before .f .given .1) _ _)
 
 returns-2 : tie.Need-returns-2
-returns-2 c = place-refused _ _ _ (c .before .before .before .layout-of .ensures) _ (c .before .x .given .1) _ _
+unfolding placeAnswer
+returns-2 c =
+    let l = c .before .before .before in
+    replies (place-refused _ _ _ (l .layout-of .ensures) _ (c .before .x .given .1) (l .before .args .lane .0) (l .before .args .element .0))
 
 pub place-spec : {M : Type 1} → statement M
 place-spec =

@@ -1,7 +1,8 @@
 -- The place was given or refused, and the line is that answer's. Assumes nothing.
 use borrow.Author.Needs.{needs}
 use mathlib.Core.Path.{sym, ap, _∙_}
-use Rattle.kinds.specs.Answers.{toldPlace}
+use Rattle.answers.proofs.Demand1.{reply-is}
+use Rattle.kinds.specs.Answers.{toldPlace, placeAnswer}
 use Rattle.lines.specs.Text.{lineOf}
 use Rattle.lines.proofs.Laws.{place-small, number-small}
 use Rattle.lines.proofs.put_line.Statement.{statement}
@@ -14,8 +15,11 @@ enum-known-row : tie.Need-enum-known-row
 enum-known-row c = search needs
 
 put-place-requires : tie.Need-put-place-requires
+unfolding placeAnswer
 put-place-requires c κs =
-    let small = place-small _ _ _ _ _ (sym (c .before .before .before .before .place .ensures) ∙ ap toldPlace (c .before .before .row .given .1)) in
+    let l = c .before .before .before .before in
+    let x = l .before .before .args in
+    let small = place-small (x .kind) (x .role) (x .lane) (x .element) _ (sym (reply-is (l .place .ensures)) ∙ ap toldPlace (c .before .before .row .given .1)) in
     search needs
 
 enum-known-x : tie.Need-enum-known-x
@@ -31,20 +35,21 @@ same-length : tie.Need-same-length
 same-length c = search needs
 
 returns : tie.Need-returns
+unfolding placeAnswer
 returns c =
     let p = c .before .before in
     let r = p .before .before .before in
-    rw (sym (ap toldPlace (r .row .given .1)) ∙ r .before .before .place .ensures) at (p .put-place .ensures)
+    rw (sym (ap toldPlace (r .row .given .1)) ∙ reply-is (r .before .before .place .ensures)) at (p .put-place .ensures)
 
 same-length-2 : tie.Need-same-length-2
 same-length-2 c = search needs
 
 returns-2 : tie.Need-returns-2
-unfolding lineOf
+unfolding lineOf placeAnswer
 returns-2 c =
     let p = c .before .before in
     let x = p .before .before .before .before in
-    rw (← (sym (ap toldPlace (x .x .given .1)) ∙ x .before .before .place .ensures), ← p .before .number .ensures) (p .put-refused .ensures)
+    rw (← (sym (ap toldPlace (x .x .given .1)) ∙ reply-is (x .before .before .place .ensures)), ← p .before .number .ensures) (p .put-refused .ensures)
 
 pub put-line-spec : {M : Type 1} → statement M
 put-line-spec =

@@ -4,9 +4,10 @@ use mathlib.Core.Path.{sym, ap, _∙_}
 use denote.Ref.{now}
 use lib.ListN.{length}
 use Rattle.answers.specs.Refusals.{told, after, given, numberOf, detailOf}
+use Rattle.answers.proofs.Shows.{meets}
 use Rattle.answers.specs.declared.Verdict.{Verdict}
 use Rattle.step.specs.Step.{stepped}
-use Rattle.step.specs.Answers.{Ready, fourBuffers, stepAnswer}
+use Rattle.step.specs.Answers.{Ready, fourBuffers}
 use Rattle.step.proofs.Accepted.{selected-given, selected-is, selected-refused}
 use Rattle.step.proofs.step.Statement.{statement}
 use Rattle.step.proofs.step.Tie as tie
@@ -31,22 +32,20 @@ same-length : tie.Need-same-length
 same-length c = search needs
 
 returns : tie.Need-returns
-unfolding stepAnswer
 returns c =
     let u = c .before .before in
-    (u .step-in .ensures .0 ∙ sym (selected-is _ _ _ (ready (u .before .before)) _), u .step-in .ensures .1)
+    meets (u .step-in .ensures .0 ∙ sym (selected-is _ _ _ (ready (u .before .before)) _)) (u .step-in .ensures .1)
 
 returns-2 : tie.Need-returns-2
-unfolding stepAnswer
 returns-2 c =
     let s = c .before .before .before .before .before .before .before in
     let e = c .enum-told2 .given .1 in
-    let x = c .enum-told2 .given .0 .0 in (
-      ap told e
-          ∙ selected-refused (s .args .kind .0) (s .args .signs .0) (s .args .mode .0) tt
-          (fourBuffers (s .args .kind .0) (length (now (s .args .a))) (length (now (s .args .b))) (length (now (s .args .c))) (length (now (s .args .d)))) (numberOf x) (detailOf x) (sym (ap told e) ∙ c .before .before .judge .ensures),
-      sym (ap (λ (v : Verdict). after (told v) (stepped (s .args .kind .0) (s .args .signs .0) (s .args .mode .0) (now (s .args .a)) (now (s .args .b)) (now (s .args .c))) (now (s .args .d))) e),
-    )
+    let x = c .enum-told2 .given .0 .0 in
+    meets
+    (ap told e
+    ∙ selected-refused (s .args .kind .0) (s .args .signs .0) (s .args .mode .0) tt
+    (fourBuffers (s .args .kind .0) (length (now (s .args .a))) (length (now (s .args .b))) (length (now (s .args .c))) (length (now (s .args .d)))) (numberOf x) (detailOf x) (sym (ap told e) ∙ c .before .before .judge .ensures))
+    (sym (ap (λ (v : Verdict). after (told v) (stepped (s .args .kind .0) (s .args .signs .0) (s .args .mode .0) (now (s .args .a)) (now (s .args .b)) (now (s .args .c))) (now (s .args .d))) e))
 
 pub step-spec : {M : Type 1} → statement M
 step-spec =

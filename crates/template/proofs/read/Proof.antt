@@ -6,6 +6,7 @@ use mathlib.Core.List.{List}
 use Prim.Native.Nat.{ℕ, _*_}
 use native.Mathlib.Omega.{arith}
 use lib.ListN.{length}
+use Rattle.answers.proofs.Shows.{meets}
 use Rattle.kinds.specs.Rule.{rowsOf, columnsOf}
 use Rattle.kinds.specs.declared.Layout.{Layout}
 use Rattle.warp.specs.Buffers.{Fitting, packed}
@@ -13,10 +14,10 @@ use Rattle.template.proofs.read.Statement.{statement}
 use Rattle.template.proofs.read.Tie as tie
 
 returns : tie.Need-returns
-returns c = (simp (ne-eqb _ _ (c .if1 .taken)), refl)
+returns c = search needs
 
 returns-2 : tie.Need-returns-2
-returns-2 c = (simp (eq-eqb _ _ (c .before .if1 .left), ne-eqb _ _ (c .if2 .taken)), refl)
+returns-2 c = search needs
 
 -- what fits the template's layout
 fitting : (f g : Layout) → f ≡ g → (m bytes : List ℕ) → m ≡ bytes → Fitting (g .bits) bytes → Fitting (f .bits) m
@@ -57,7 +58,7 @@ returns-3 c =
     let w = c .before .before .before .before .before .before in
     let o = w .before .before in
     let e2 = o .before in
-    (simp (eq-eqb _ _ (e2 .before .if1 .left), eq-eqb _ _ (e2 .if2 .left)), c .before .before .fill-words .ensures ∙ ap₂ packed (o .of .ensures .0) (w .widen .ensures))
+    meets (simp (eq-eqb _ _ (e2 .before .if1 .left), eq-eqb _ _ (e2 .if2 .left))) (c .before .before .fill-words .ensures ∙ ap₂ packed (o .of .ensures .0) (w .widen .ensures))
 
 pub read-spec : {M : Type 1} → statement M
 read-spec =

@@ -7,6 +7,7 @@ use native.Mathlib.Omega.{arith}
 use denote.Ref.{now}
 use lib.ListN.{length}
 use Rattle.kinds.proofs.Table.{layoutAt}
+use Rattle.answers.proofs.Shows.{meets}
 use Rattle.kinds.specs.Rule.{rowsOf, columnsOf}
 use Rattle.kinds.specs.declared.Layout.{Layout}
 use Rattle.warp.specs.Buffers.{Fitting, unpacked}
@@ -17,10 +18,10 @@ use Rattle.template.proofs.write.Statement.{statement}
 use Rattle.template.proofs.write.Tie as tie
 
 returns : tie.Need-returns
-returns c = (simp (ne-eqb _ _ (c .if1 .taken)), refl)
+returns c = search needs
 
 returns-2 : tie.Need-returns-2
-returns-2 c = (simp (eq-eqb _ _ (c .before .if1 .left), ne-eqb _ _ (c .if2 .taken)), refl)
+returns-2 c = search needs
 
 of-requires : tie.Need-of-requires
 of-requires c κs = (omega arith, omega arith, omega arith)
@@ -55,10 +56,9 @@ returns-3 c =
     let w = c .before .before .before .before .before .before in
     let o = w .before .before in
     let e2 = o .before in
-    let ws = now (e2 .before .before .before .before .args .words) in (
-      simp (eq-eqb _ _ (e2 .before .if1 .left), eq-eqb _ _ (e2 .if2 .left)),
-      c .before .before .narrow .ensures ∙ w .fill .ensures ∙ ap (λ (f : Layout). unpacked f ws) (o .of .ensures .0),
-    )
+    let ws = now (e2 .before .before .before .before .args .words) in
+    meets (simp (eq-eqb _ _ (e2 .before .if1 .left), eq-eqb _ _ (e2 .if2 .left)))
+    (c .before .before .narrow .ensures ∙ w .fill .ensures ∙ ap (λ (f : Layout). unpacked f ws) (o .of .ensures .0))
 
 pub write-spec : {M : Type 1} → statement M
 write-spec =

@@ -1,8 +1,7 @@
 -- The run's words are those of the run that was opened, or of the zero run. Assumes nothing.
 use borrow.Author.Needs.{needs}
-use mathlib.Core.Path.{ap, _∙_}
 use Rattle.wazimroot.specs.Words.{wordsOf}
-use Rattle.wazimroot.proofs.Laws.{told-code, told-left}
+use Rattle.answers.proofs.Codes.{coded-as}
 use Rattle.wazimroot.proofs.wz_open.Statement.{statement}
 use Rattle.wazimroot.proofs.wz_open.Tie as tie
 
@@ -16,9 +15,7 @@ code-of-requires : tie.Need-code-of-requires
 code-of-requires c κs = search needs
 
 returns : tie.Need-returns
-returns c =
-    let o = c .before .before .before .before .«open» .ensures in
-    (told-code (o .0) (c .code-of .ensures), c .before .put .ensures ∙ ap wordsOf (told-left (o .0) _ _ (o .1)))
+returns c = coded-as wordsOf (c .before .before .before .before .«open» .ensures) (c .code-of .ensures) (c .before .put .ensures)
 
 pub wz-open-spec : {M : Type 1} → statement M
 wz-open-spec = tie.close (tie.spec open-requires put-requires code-of-requires returns)

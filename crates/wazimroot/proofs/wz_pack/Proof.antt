@@ -1,6 +1,6 @@
 -- The code is that of the verdict, and the verdict is the answer. Assumes nothing.
 use borrow.Author.Needs.{needs}
-use Rattle.wazimroot.proofs.Laws.{told-code, told-left}
+use Rattle.answers.proofs.Codes.{coded}
 use Rattle.wazimroot.proofs.wz_pack.Statement.{statement}
 use Rattle.wazimroot.proofs.wz_pack.Tie as tie
 
@@ -14,9 +14,7 @@ same-length : tie.Need-same-length
 same-length c = search needs
 
 returns : tie.Need-returns
-returns c =
-    let u = c .before .before .before .pack .ensures in
-    (told-code (u .0) (c .code-of .ensures), told-left (u .0) _ _ (u .1))
+returns c = coded (c .before .before .before .pack .ensures) (c .code-of .ensures)
 
 pub wz-pack-spec : {M : Type 1} → statement M
 wz-pack-spec = tie.close (tie.spec pack-requires code-of-requires same-length returns)

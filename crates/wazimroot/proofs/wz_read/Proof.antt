@@ -1,16 +1,19 @@
 -- D is what reading the run leaves there. Assumes nothing.
 use borrow.Author.Needs.{needs}
-use mathlib.Core.Path.{ap, _∙_}
-use denote.Ref.{now}
-use lib.ListN.{length}
-use Rattle.answers.specs.Refusals.{told, after}
+use mathlib.Core.Path.{_≡_, refl, subst}
+use mathlib.Core.List.{List}
+use Prim.Native.Nat.{ℕ}
+use Rattle.answers.specs.Contracts.{Meets}
+use Rattle.answers.specs.declared.Verdict.{Verdict}
+use Rattle.answers.proofs.Codes.{coded-as}
 use Rattle.run.specs.declared.Run.{Run}
-use Rattle.run.specs.Runs.{usedOf}
-use Rattle.run.specs.Answers.{readAnswer}
-use Rattle.wazimroot.specs.Words.{runIn}
-use Rattle.wazimroot.proofs.Laws.{told-code, told-left}
+use Rattle.run.specs.Answers.{readCall}
 use Rattle.wazimroot.proofs.wz_read.Statement.{statement}
 use Rattle.wazimroot.proofs.wz_read.Tie as tie
+
+-- the run that was read is the one in the words
+met : {taken run left : Run} {d out : List ℕ} {verdict : Verdict} → taken ≡ run → Meets (readCall taken d) (d, taken) verdict (out, left) → Meets (readCall run d) (d, run) verdict (out, left)
+met {left = left} {d = d} {out = out} {verdict = verdict} e m = subst (λ (x : Run). Meets (readCall x d) (d, x) verdict (out, left)) e m
 
 taken-requires : tie.Need-taken-requires
 taken-requires c κs = search needs
@@ -26,13 +29,8 @@ same-length c = search needs
 
 returns : tie.Need-returns
 returns c =
-    let r = c .before .before .before .read .ensures in
-    let s = c .before .before .before .before .before .before .before .before in
-    let v = c .before .before .before .read .result .verdict in
-    let d = now (s .args .d) in
-    let e = c .before .before .before .before .before .taken .ensures in
-    let is = r .0 ∙ ap (λ (run : Run). readAnswer run (length d)) e in
-    (told-code is (c .code-of .ensures), told-left is (usedOf (runIn (now (s .args .words)))) d (r .1 .0 ∙ ap (λ (run : Run). after (told v) (usedOf run) d) e))
+    let r = c .before .before .before in
+    coded-as (λ left. left .0) (met (r .before .before .taken .ensures) (r .read .ensures)) (c .code-of .ensures) refl
 
 pub wz-read-spec : {M : Type 1} → statement M
 wz-read-spec =

@@ -2,6 +2,8 @@
 use borrow.Author.Needs.{needs}
 use mathlib.Core.Path.{sym, ap, _∙_}
 use Rattle.answers.specs.Refusals.{told}
+use Rattle.answers.proofs.Shows.{meets}
+use Rattle.run.specs.Answers.{feedAnswer}
 use Rattle.run.proofs.Laws.{feed-accepted, written, kept}
 use Rattle.run.proofs.Run.feed.Statement.{statement}
 use Rattle.run.proofs.Run.feed.Tie as tie
@@ -21,14 +23,16 @@ enum-told-2 : tie.Need-enum-told-2
 enum-told-2 c = search needs
 
 returns : tie.Need-returns
+unfolding feedAnswer
 returns c =
     let s = c .before .before .before .before .before .before in
-    (c .before .before .before .judge-feed .ensures, c .fed .ensures ∙ written _ (s .args .self) (c .before .enum-told .given .1))
+    meets (c .before .before .before .judge-feed .ensures) (c .fed .ensures ∙ written _ (s .args .self) (c .before .enum-told .given .1))
 
 returns-2 : tie.Need-returns-2
+unfolding feedAnswer
 returns-2 c =
     let s = c .before .before .before .before .before in
-    (c .before .before .judge-feed .ensures, kept _ (s .args .self) (c .enum-told2 .given .1))
+    meets (c .before .before .judge-feed .ensures) (kept _ (s .args .self) (c .enum-told2 .given .1))
 
 pub feed-spec : {M : Type 1} → statement M
 feed-spec =

@@ -3,6 +3,8 @@ use borrow.Author.Needs.{needs}
 use mathlib.Core.Path.{sym, ap, _∙_}
 use Rattle.laws.specs.Lists.{tab}
 use Rattle.answers.specs.Refusals.{told}
+use Rattle.answers.proofs.Shows.{meets}
+use Rattle.run.specs.Answers.{openAnswer}
 use Rattle.run.specs.Runs.{zeros, zeroRun}
 use Rattle.run.proofs.Laws.{open-accepted, written, kept}
 use Rattle.run.proofs.Run.open.Statement.{statement}
@@ -21,11 +23,12 @@ enum-told-2 : tie.Need-enum-told-2
 enum-told-2 c = search needs
 
 returns : tie.Need-returns
-returns c = (c .before .before .before .judge-open .ensures, c .opened .ensures ∙ written _ zeroRun (c .before .enum-told .given .1))
+unfolding openAnswer
+returns c = meets (c .before .before .before .judge-open .ensures) (c .opened .ensures ∙ written _ zeroRun (c .before .enum-told .given .1))
 
 returns-2 : tie.Need-returns-2
-unfolding zeroRun zeros tab
-returns-2 c = (c .before .before .judge-open .ensures, kept _ zeroRun (c .enum-told2 .given .1))
+unfolding openAnswer zeroRun zeros tab
+returns-2 c = meets (c .before .before .judge-open .ensures) (kept _ zeroRun (c .enum-told2 .given .1))
 
 pub open-spec : {M : Type 1} → statement M
 open-spec =

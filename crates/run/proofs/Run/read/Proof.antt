@@ -2,6 +2,7 @@
 use borrow.Author.Needs.{needs}
 use mathlib.Core.Path.{_≡_, refl, sym, ap, _∙_}
 use Prim.Native.Nat.{ℕ, _≤_}
+use mathlib.Core.List.{List}
 use native.Mathlib.Omega.{arith}
 use denote.Ref.{now}
 use lib.ListN.{length, take}
@@ -9,6 +10,8 @@ use lib.Seq.{length-take-le}
 use Rattle.answers.specs.Refusals.{told}
 use Rattle.warp.specs.Buffers.{wordsNeeded}
 use Rattle.step.specs.Answers.{Ready}
+use Rattle.answers.proofs.Shows.{meets}
+use Rattle.run.specs.Answers.{readAnswer}
 use Rattle.run.specs.Runs.{usedOf}
 use Rattle.run.proofs.Laws.{used-le, read-accepted, written, kept}
 use Rattle.run.proofs.Run.read.Statement.{statement}
@@ -45,9 +48,10 @@ enum-told-2 : tie.Need-enum-told-2
 enum-told-2 c = search needs
 
 returns : tie.Need-returns
+unfolding readAnswer
 returns c =
     let s = c .before .before .before .before in
-    (c .before .before .judge-read .ensures, (kept (usedOf (s .args .self)) (now (s .args .d)) (c .enum-told2 .given .1), refl))
+    meets (c .before .before .judge-read .ensures) (kept (usedOf (s .args .self), s .args .self) (now (s .args .d), s .args .self) (c .enum-told2 .given .1))
 
 array-share-prefix-sums : tie.Need-array-share-prefix-sums
 array-share-prefix-sums c = inside c
@@ -62,11 +66,13 @@ same-length : tie.Need-same-length
 same-length c = search needs
 
 returns-2 : tie.Need-returns-2
-unfolding usedOf
+unfolding readAnswer usedOf
 returns-2 c =
     let u = c .before .before .before .before .before in
     let e = ap (λ (m : ℕ). take m (S u .args .self .sums)) (accepted u .2) in
-    (u .before .before .before .judge-read .ensures, (c .before .before .copy .ensures ∙ e ∙ written (usedOf (S u .args .self)) (now (S u .args .d)) (u .before .enum-told .given .1), refl))
+    let self = S u .args .self in
+    meets (u .before .before .before .judge-read .ensures)
+    (ap (λ (d : List ℕ). (d, self)) (c .before .before .copy .ensures ∙ e) ∙ written (usedOf self, self) (now (S u .args .d), self) (u .before .enum-told .given .1))
 
 pub read-spec : {M : Type 1} → statement M
 read-spec =
