@@ -1,12 +1,12 @@
 -- A test holds exactly when it says so, and the first index of a `somewhere`. Assumes nothing.
-use mathlib.Core.Path.{_≡_, refl, sym, ap, subst, _∙_}
+use mathlib.Core.Path.{_≡_, refl, sym, ap, _∙_}
 use mathlib.Core.Bool.{Bool, true, false, not, _&&_, _||_, false≢true}
 use mathlib.Core.Logic.{_↔_, _⊎_, inl, inr}
 use Prim.Native.Nat.{ℕ, zero, suc, _<_, _≤_, zero-le, suc-le-suc}
-use native.Mathlib.Nat.{not-le-of-lt, not-suc-le-zero, le-of-suc-le-suc}
+use native.Mathlib.Nat.{not-suc-le-zero, le-of-suc-le-suc}
 use native.Mathlib.Omega.{arith}
-use borrow.Author.Tests.{ltb-true, ltb-false, lt-ltb, leb-true, le-leb, eqb-true, eq-eqb, not-true}
-use Rattle.laws.specs.Choice.{if_then_else_, _<?_, _≤?_, _=?_}
+use borrow.Author.Tests.{ltb-true, lt-ltb, leb-true, le-leb, eqb-true, eq-eqb, not-true}
+use Rattle.laws.specs.Choice.{if_then_else_, _<?_, _=?_}
 use Rattle.answers.specs.Tests.{Test, over, under, reaches, is, differs, either, both, unless, somewhere, Says, firstTrue, holds, firstOf}
 
 -- the scan: it ends at n at the latest; before it nothing is true; where it ends below n, it is true there

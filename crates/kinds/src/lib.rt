@@ -2,8 +2,8 @@
 ghost use mathlib.Core.Path.{_≡_};
 ghost use Prim.Native.Nat.{_<_, _≤_};
 ghost use Rattle.answers.specs.Contracts.{Replies};
-ghost use Rattle.kinds.specs.Kinds.{kinds, entryOf, roleOf, lanes};
-ghost use Rattle.kinds.specs.Rule.{spread, sideOf, layoutOf, layoutsOf, elementsOf, Laid};
+ghost use Rattle.kinds.specs.Kinds.{kinds, entryOf, roleOf};
+ghost use Rattle.kinds.specs.Rule.{spread, sideOf, layoutOf, layoutsOf, Laid};
 ghost use Rattle.kinds.specs.Answers.{toldLayout, toldPlace, toldHolder, layoutAnswer, placeCall, placeBy, findCall, findBy};
 use answers::Refusal;
 

@@ -1,33 +1,30 @@
 -- Blocks fed one after the other go their own way at each place: the word there takes in what each block adds, and the number counts the
 -- blocks. So demand 3 is what holds of one word. Assumes nothing.
-use mathlib.Core.Path.{_≡_, refl, sym, ap, ap₂, subst, _∙_}
-use mathlib.Core.Bool.{Bool, true, false, not, _&&_, _||_}
-use mathlib.Core.List.{List, [], _∷_, _++_, List·Permᴰ, List·Permᴰ·nil, List·Permᴰ·cons, List·Permᴰ·swap, List·Permᴰ·trans}
-use Prim.Native.Nat.{ℕ, zero, suc, _+_, _-_, _*_, _^_, _<_, _≤_}
+use mathlib.Core.Path.{_≡_, refl, sym, ap, subst, _∙_}
+use mathlib.Core.List.{List, [], _∷_, List·Permᴰ, List·Permᴰ·nil, List·Permᴰ·cons, List·Permᴰ·swap, List·Permᴰ·trans}
+use Prim.Native.Nat.{ℕ, suc, _+_, _<_, _≤_}
 use native.Mathlib.Omega.{arith}
 use borrow.Author.Tests.{eq-eqb, le-leb, lt-leb, le-ltb}
 use lib.IntN.{ℤ, _+ℤ_}
-use lib.ListN.{length, take, drop, length-append, length-drop}
+use lib.ListN.{length, take, drop}
 use lib.Seq.{take-at}
-use Rattle.laws.specs.Choice.{if_then_else_, _<?_, _≤?_, _=?_}
 use Rattle.laws.specs.Integers.{int32, word32, clamp}
-use Rattle.laws.specs.Totals.{total, wrappedBy, clampedBy, clampedEach, NoneNegative, NonePositive, Wraps}
-use Rattle.laws.proofs.Totals.{fed-wraps, fed-up, fed-down, fed-clamped}
-use Rattle.answers.specs.Refusals.{Answer, given, refusal, after}
+use Rattle.laws.specs.Totals.{wrappedBy, clampedBy}
+use Rattle.answers.specs.Refusals.{Answer, given, after}
 use Rattle.kinds.proofs.Table.{layoutAt, sane}
 use Rattle.warp.specs.Buffers.{wordsNeeded}
 use Rattle.warp.proofs.Placed.{words-needed}
 use Rattle.warp.proofs.Round as round
 use Rattle.step.specs.Step.{entryIn, added, limit, resultAt, results, stepped}
 use Rattle.cell.specs.Limits.{cellOf}
-use Rattle.step.specs.Answers.{Ready, noSelectors}
+use Rattle.step.specs.Answers.{Ready}
 use Rattle.step.proofs.Accepted.{selectors-ok}
 use Rattle.step.proofs.Matrices.{legal}
 use Rattle.step.proofs.Promises.{rowsD, columnsD, result-at}
 use Rattle.run.specs.declared.Run.{Run}
 use Rattle.run.specs.Runs.{runOf, withUsed, usedOf, fedRun}
 use Rattle.run.specs.Answers.{feedAnswer}
-use Rattle.run.specs.Blocks.{Block, fedBy, fedAll, AllAccepted, contributions, sumAt}
+use Rattle.run.specs.Blocks.{Block, fedBy, fedAll, AllAccepted, contributions}
 use Rattle.run.proofs.Laws.{feed-accepted}
 
 -- a word after what each block adds

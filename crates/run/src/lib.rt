@@ -7,7 +7,7 @@ ghost use Rattle.answers.specs.Refusals.{told, given, refusal};
 ghost use Rattle.answers.specs.Contracts.{Meets};
 ghost use Rattle.warp.specs.Buffers.{wordsNeeded};
 ghost use Rattle.step.specs.Answers.{Ready};
-ghost use Rattle.run.specs.Runs.{openedRun, zeroRun, usedOf, fedRun};
+ghost use Rattle.run.specs.Runs.{openedRun, zeroRun, fedRun};
 ghost use Rattle.run.specs.Answers.{maxBlocks, noRun, openAnswer, feedAnswer, readAnswer, openCall, feedCall, readCall};
 use answers::Refusal;
 use answers::Verdict;

@@ -1,7 +1,7 @@
 -- Each return rewrites the chain with the tests that led there; the entries that were unpacked fit a byte. Assumes nothing.
 use borrow.Author.Needs.{needs}
-use borrow.Author.Tests.{eq-eqb, ne-eqb}
-use mathlib.Core.Path.{refl, sym, ap, subst, _∙_}
+use borrow.Author.Tests.{eq-eqb}
+use mathlib.Core.Path.{sym, ap, subst, _∙_}
 use Prim.Native.Nat.{_*_}
 use native.Mathlib.Omega.{arith}
 use denote.Ref.{now}
