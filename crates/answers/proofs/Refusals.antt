@@ -1,7 +1,8 @@
 -- A refusal is its number and detail, so that two verdicts that are told alike are equal. Assumes nothing.
 use mathlib.Core.Path.{_≡_, refl, ap}
 use mathlib.Core.List.{[], _∷_}
-use Prim.Native.Nat.{ℕ}
+use Prim.Native.Nat.{ℕ, _<_, _≤_}
+use native.Mathlib.Omega.{arith}
 use lib.ListN.{getD}
 use Rattle.laws.proofs.Unique.{one-answer}
 use Rattle.answers.specs.Refusals.{Answer, given, refusal, numberOf, detailOf, told}
@@ -27,6 +28,19 @@ refusal-back (TooWide i) = refl
 refusal-back (BadScale s) = refl
 refusal-back RunFull = refl
 refusal-back BadRun = refl
+
+-- every number is 1 to 10
+pub number-range : (f : Refusal) → (0 < numberOf f) × (numberOf f ≤ 10)
+number-range UnknownKind = (omega arith, omega arith)
+number-range UnknownRole = (omega arith, omega arith)
+number-range NotArithmetic = (omega arith, omega arith)
+number-range BadSelectors = (omega arith, omega arith)
+number-range (WrongLength b) = (omega arith, omega arith)
+number-range Outside = (omega arith, omega arith)
+number-range (TooWide i) = (omega arith, omega arith)
+number-range (BadScale s) = (omega arith, omega arith)
+number-range RunFull = (omega arith, omega arith)
+number-range BadRun = (omega arith, omega arith)
 
 verdictOf : Answer (Unit {0}) → Verdict
 verdictOf (given x) = Accepted

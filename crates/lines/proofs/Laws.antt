@@ -13,9 +13,7 @@ use Rattle.laws.specs.Choice.{if_then_else_, _≤?_, _<?_}
 use Rattle.laws.proofs.Choice.{or-false}
 use Rattle.kinds.specs.Kinds.{lanes}
 use Rattle.kinds.specs.Rule.{elementsOf, turn, placeIn, major, minor}
-use Rattle.answers.specs.Refusals.{Answer, given, refusal, numberOf}
-use Rattle.answers.specs.declared.Refusal.{Refusal}
-use Rattle.answers.specs.declared.Refusal.the-variants.{UnknownKind, UnknownRole, NotArithmetic, BadSelectors, WrongLength, Outside, TooWide, BadScale, RunFull, BadRun}
+use Rattle.answers.specs.Refusals.{Answer, given, refusal}
 use Rattle.kinds.specs.Answers.{placeAnswer, placeBy}
 use Rattle.kinds.proofs.Digits.{major-lt, minor-lt}
 use Rattle.kinds.proofs.Table.{layoutAt, sane}
@@ -81,19 +79,6 @@ place-small k r l i z e =
     let y< = minor-lt (f .side) (f .halves) (w .side-pos) (w .halves-pos) (f .spans) l i (leb-false (elementsOf f) i (b .1)) in
     let same : placeIn f l i ≡ z = cc in
     rw same at (turn-lt (f .turned) 1000 (major (f .side) (f .halves) l i) (minor (f .side) (f .halves) l i) (omega arith) (omega arith))
-
--- and so is every refusal number
-pub number-small : (x : Refusal) → numberOf x < 1000
-number-small UnknownKind = omega arith
-number-small UnknownRole = omega arith
-number-small NotArithmetic = omega arith
-number-small BadSelectors = omega arith
-number-small (WrongLength buffer) = omega arith
-number-small Outside = omega arith
-number-small (TooWide index) = omega arith
-number-small (BadScale selector) = omega arith
-number-small RunFull = omega arith
-number-small BadRun = omega arith
 
 -- whole records print before what follows them, and one to three bytes `short record`
 pub printed-joined : (whole rest : List ℕ) → length whole % 4 ≡ 0 → printed (whole ++ rest) ≡ printed whole ++ printed rest

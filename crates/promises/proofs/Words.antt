@@ -1,6 +1,6 @@
 -- A test that computes and the words that it tests: one is true exactly when the other holds, part by part. And the law of a chain of
 -- refusals. Assumes nothing.
-use mathlib.Core.Path.{_≡_, refl, sym, ap₂, subst, _∙_}
+use mathlib.Core.Path.{_≡_, refl, sym, subst, _∙_}
 use mathlib.Core.Bool.{Bool, true, false, not, _&&_, _||_, false≢true}
 use mathlib.Core.Logic.{_↔_, _≢_, _⊎_, inl, inr}
 use mathlib.Core.List.{List, [], _∷_}
@@ -10,7 +10,8 @@ use lib.ListN.{length, getD}
 use native.Mathlib.Omega.{arith}
 use borrow.Author.Tests.{ltb-true, ltb-false, lt-ltb, leb-true, leb-false, le-leb, lt-leb, eqb-true, eq-eqb, not-true, not-false}
 use Rattle.laws.specs.Choice.{if_then_else_, _<?_, _≤?_, _=?_}
-use Rattle.answers.specs.Refusals.{Answer, given, refusal}
+use Rattle.answers.proofs.Demand1.{line-refused, line-given}
+use Rattle.answers.specs.Refusals.{given, refusal}
 use Rattle.kinds.proofs.Judged.{never}
 use Rattle.pack.specs.Answers.{firstWide}
 use Rattle.pack.proofs.Answers.{first-at, first-fits, first-le}
@@ -141,35 +142,13 @@ wide-index b m i l = (there, λ x. sym (first-at b m i l (x .1) (x .0)))
     there : firstWide b m ≡ i → (2 ^ b ≤ getD m i 0) × ((j : ℕ) → j < i → getD m j 0 < 2 ^ b)
     there e = subst (λ (i : ℕ). (2 ^ b ≤ getD m i 0) × ((j : ℕ) → j < i → getD m j 0 < 2 ^ b)) e (first-wide b m (omega arith))
 
--- one link before the rest
-module _ {X : Type 0} {P G : Type 0} (m c n d : ℕ) (rest : Answer X) where
-  link-refused : (t : Bool) → (t ≡ true) ↔ P → (rest ≡ refusal n d) ↔ G → ((if t then refusal m c else rest) ≡ refusal n d) ↔ ((P × (m ≡ n) × (c ≡ d)) ⊎ ((¬ P) × G))
-  link-refused true h g = (there, back)
-    where
-      there : _≡_ {A = Answer X} (refusal m c) (refusal n d) → (P × (m ≡ n) × (c ≡ d)) ⊎ ((¬ P) × G)
-      there e = inl (h .0 refl, cc, cc)
-
-      back : (P × (m ≡ n) × (c ≡ d)) ⊎ ((¬ P) × G) → _≡_ {A = Answer X} (refusal m c) (refusal n d)
-      back (inl x) = ap₂ refusal (x .1) (x .2)
-      back (inr x) = absurd (x .0 (h .0 refl))
-  link-refused false h g = (λ e. inr (λ p. false≢true (h .1 p), g .0 e), back)
-    where
-      back : (P × (m ≡ n) × (c ≡ d)) ⊎ ((¬ P) × G) → rest ≡ refusal n d
-      back (inl x) = absurd (false≢true (h .1 (x .0)))
-      back (inr x) = g .1 (x .1)
-
-module _ {X : Type 0} {P G : Type 0} (m c : ℕ) (x : X) (rest : Answer X) where
-  link-given : (t : Bool) → (t ≡ true) ↔ P → (rest ≡ given x) ↔ G → ((if t then refusal m c else rest) ≡ given x) ↔ ((¬ P) × G)
-  link-given true h g = (λ e. absurd (never e), λ z. absurd (z .0 (h .0 refl)))
-  link-given false h g = (λ e. (λ p. false≢true (h .1 p), g .0 e), λ z. g .1 (z .1))
-
 -- A chain gives a refusal exactly when the first of its lines that holds has that number and detail, and what follows it exactly when none
 -- holds.
 module _ {X : Type 0} (x : X) where
   pub refused-exactly : {ts : List Link} {ls : List Line} → InWords ts ls → (n d : ℕ) → (first ts (given x) ≡ refusal n d) ↔ Gives ls n d
   refused-exactly acceptance n d = (λ e. never (sym e), λ z. absurd z)
-  refused-exactly (_before_ {t} {P} {number} {detail} {ts} {ls} h w) n d = link-refused number detail n d (first ts (given x)) t h (refused-exactly w n d)
+  refused-exactly (_before_ {t} {P} {number} {detail} {ts} {ls} h w) n d = line-refused number detail n d (first ts (given x)) t h (refused-exactly w n d)
 
   pub given-exactly : {ts : List Link} {ls : List Line} → InWords ts ls → (first ts (given x) ≡ given x) ↔ NoneHolds ls
   given-exactly acceptance = (λ e. tt, λ z. refl)
-  given-exactly (_before_ {t} {P} {number} {detail} {ts} {ls} h w) = link-given number detail x (first ts (given x)) t h (given-exactly w)
+  given-exactly (_before_ {t} {P} {number} {detail} {ts} {ls} h w) = line-given number detail x (first ts (given x)) t h (given-exactly w)

@@ -6,9 +6,8 @@ use mathlib.Core.Logic.{_↔_}
 use Prim.Native.Nat.{ℕ, _/_, _%_, _^_, _<_, _≤_}
 use native.Mathlib.Omega.{arith}
 use lib.ListN.{length}
-use Rattle.answers.specs.Refusals.{Answer, given, refusal, told, after, numberOf}
-use Rattle.answers.specs.declared.Refusal.{Refusal}
-use Rattle.answers.specs.declared.Refusal.the-variants.{UnknownKind, UnknownRole, NotArithmetic, BadSelectors, WrongLength, Outside, TooWide, BadScale, RunFull, BadRun}
+use Rattle.answers.specs.Refusals.{Answer, given, refusal, told, after}
+use Rattle.answers.proofs.Refusals.{number-range}
 use Rattle.answers.specs.declared.Verdict.{Verdict}
 use Rattle.answers.specs.declared.Verdict.the-variants.{Accepted, Refused}
 use Rattle.run.specs.declared.Run.{Run}
@@ -69,18 +68,6 @@ pub code-detail : (n d : ℕ) → n < 2 ^ 32 → codeOf {X = Unit {0}} (refusal 
 code-detail n d h = omega arith
 
 -- and it is 0 exactly where the call was accepted.
-number-pos : (x : Refusal) → 0 < numberOf x
-number-pos UnknownKind = omega arith
-number-pos UnknownRole = omega arith
-number-pos NotArithmetic = omega arith
-number-pos BadSelectors = omega arith
-number-pos (WrongLength buffer) = omega arith
-number-pos Outside = omega arith
-number-pos (TooWide index) = omega arith
-number-pos (BadScale selector) = omega arith
-number-pos RunFull = omega arith
-number-pos BadRun = omega arith
-
 pub code-accepted : (v : Verdict) → (codeOf (told v) ≡ 0) ↔ (v ≡ Accepted)
 code-accepted Accepted = (λ e. refl, λ e. refl)
-code-accepted (Refused x) = (λ e. absurd (omega (arith, number-pos x)), λ e. absurd (let z : _≡_ {A = ℕ} 0 1 = cc in omega arith))
+code-accepted (Refused x) = (λ e. absurd (omega (arith, number-range x)), λ e. absurd (let z : _≡_ {A = ℕ} 0 1 = cc in omega arith))

@@ -1,10 +1,11 @@
 -- The place was given or refused, and the line is that answer's. Assumes nothing.
 use borrow.Author.Needs.{needs}
 use mathlib.Core.Path.{sym, ap, _∙_}
+use Rattle.answers.proofs.Refusals.{number-range}
 use Rattle.answers.proofs.Demand1.{reply-is}
 use Rattle.kinds.specs.Answers.{toldPlace, placeAnswer}
 use Rattle.lines.specs.Text.{lineOf}
-use Rattle.lines.proofs.Laws.{place-small, number-small}
+use Rattle.lines.proofs.Laws.{place-small}
 use Rattle.lines.proofs.put_line.Statement.{statement}
 use Rattle.lines.proofs.put_line.Tie as tie
 
@@ -29,7 +30,7 @@ number-requires : tie.Need-number-requires
 number-requires c κs = search needs
 
 put-refused-requires : tie.Need-put-refused-requires
-put-refused-requires c κs = let small = number-small (c .before .before .before .x .given .0 .0) in search needs
+put-refused-requires c κs = let small = number-range (c .before .before .before .x .given .0 .0) in search needs
 
 same-length : tie.Need-same-length
 same-length c = search needs
