@@ -89,6 +89,14 @@ module _ {X : Type 0} {call : Call X} where
   pub reply-is : {reply : Answer X} → Replies call reply → reply ≡ answer call
   reply-is {reply} r = to-first (call .refusals) (call .gives) reply (r .reply-right) (r .reply-is)
 
+  -- It is refused with a number and a detail exactly when the first line that says so has them, and given exactly when none says so.
+  module _ {reply : Answer X} (r : Replies call reply) where
+    pub reply-refused-when : (n d : ℕ) → (reply ≡ refusal n d) ↔ Gives (call .refusals) n d
+    reply-refused-when n d = (λ e. refused-when call n d .0 (sym (reply-is r) ∙ e), λ g. reply-is r ∙ refused-when call n d .1 g)
+
+    pub reply-given-when : (reply ≡ given (call .gives)) ↔ NoneSays (call .refusals)
+    reply-given-when = (λ e. given-when call .0 (sym (reply-is r) ∙ e), λ g. reply-is r ∙ given-when call .1 g)
+
   -- 'Show that no second answer satisfies it': of a call that gives something back,
   pub no-second-reply : {a b : Answer X} → Replies call a → Replies call b → a ≡ b
   no-second-reply m n = reply-is m ∙ sym (reply-is n)

@@ -15,7 +15,7 @@ use Rattle.answers.specs.Contracts.{Meets, Replies, Judges, Tells}
 use Rattle.answers.specs.declared.Refusal.{Refusal}
 use Rattle.answers.specs.declared.Verdict.{Verdict}
 use Rattle.answers.specs.declared.Verdict.the-variants.{Accepted, Refused}
-use Rattle.answers.proofs.Words.{says, first-before}
+use Rattle.answers.proofs.Words.{says, first-before, first-none}
 
 or-false : (s : Bool) {t : Bool} → (s || t) ≡ false → (s ≡ false) × (t ≡ false)
 or-false true e = absurd (false≢true (sym e))
@@ -112,6 +112,18 @@ denied (both t u) e = λ p. denied u (sym (ap (λ (s : Bool). s && holds u) (say
 denied (unless t) e = says t .0 (not-false (holds t) e)
 denied (somewhere n t) e = λ i l. denied (t i) (first-before n (λ k. holds (t k)) i (omega (arith, ltb-false (firstOf n t) n e)))
 
+-- and where it is denied, it does not hold
+pub deny : (t : Test) → Denies t → holds t ≡ false
+deny (over x most) d = le-ltb most x d
+deny (under x least) d = le-ltb x least d
+deny (reaches x limit) d = lt-leb limit x d
+deny (is x y) d = ne-eqb x y d
+deny (differs x y) d = ap not (eq-eqb x y d)
+deny (either t u) d = ap₂ _||_ (deny t (d .0)) (deny u (d .1))
+deny (both t u) d = cases (holds t) (λ e. ap₂ _&&_ e (deny u (d (says t .0 e)))) (λ e. ap (λ (s : Bool). s && holds u) e)
+deny (unless t) d = ap not (says t .1 d)
+deny (somewhere n t) d = le-ltb (firstOf n t) n (omega (arith, first-none n (λ k. holds (t k)) (λ j l. deny (t j) (d j l))))
+
 module _ {X : Type 0} where
   pub never : {n d : ℕ} {x : X} → refusal n d ≡ given x → ⊥
   never {n} {d} {x} e = let z : _≡_ {A = ℕ} 0 1 = cc in omega arith
@@ -206,6 +218,57 @@ pub went-on : {X Y : Type 0} (ls rest : List Line) (x : X) (y : Y) {z : X} (q : 
 went-on [] rest x y q e r = r
 went-on (l ∷ ls) rest x y q e r =
     cases (holds (l .test)) (λ h. absurd (never (sym (rw h at e)))) (λ h. rw h (went-on ls rest x y q (rw h at e) r))
+
+-- What was given passed every line; what passes every line is given; and lines that are passed leave the answer to the rest.
+module _ {X : Type 0} where
+  pub passes : (ls : List Line) (x : X) {y : X} → first ls x ≡ given y → Passes ls
+  passes [] x e = tt
+  passes (l ∷ ls) x e =
+      cases (holds (l .test)) (λ h. absurd (never (rw h at e))) (λ h. (denied (l .test) h, passes ls x (rw h at e)))
+
+  pub passing : (ls : List Line) (x : X) → Passes ls → first ls x ≡ given x
+  passing [] x p = refl
+  passing (l ∷ ls) x p = rw (deny (l .test) (p .0)) (passing ls x (p .1))
+
+  pub goes-on : (ls rest : List Line) (x : X) → Passes ls → first (ls then rest) x ≡ first rest x
+  goes-on [] rest x p = refl
+  goes-on (l ∷ ls) rest x p = rw (deny (l .test) (p .0)) (goes-on ls rest x (p .1))
+
+  pub came-on : (ls rest : List Line) (x : X) {y : X} → first (ls then rest) x ≡ given y → Passes ls × (first rest x ≡ given y)
+  came-on [] rest x e = (tt, e)
+  came-on (l ∷ ls) rest x {y} e = cases (holds (l .test)) (λ h. absurd (never (rw h at e))) (λ h. on h (came-on ls rest x (rw h at e)))
+    where
+      on : holds (l .test) ≡ false → Passes ls × (first rest x ≡ given y) → Passes (l ∷ ls) × (first rest x ≡ given y)
+      on h r = ((denied (l .test) h, r .0), r .1)
+
+-- What shows a test, by what it says where it does not hold.
+pub shown : (t : Test) → ¬ Denies t → Shows true t
+shown t h = if-from false t (λ e. h (denied t e))
+
+pub hidden : (t : Test) → Denies t → Shows false t
+hidden t d = if-from true t (λ e. one-of e (deny t d))
+
+-- Two judges, one after the other: the first one's refusal stands, and where it accepts, the second one decides. Where there are no lines more, it is
+-- accepted.
+pub accepts : {verdict : Verdict} → verdict ≡ Accepted → Judges [] verdict
+accepts {verdict} e = record { verdict-right = from-first [] tt (told verdict) (ap told e) }
+
+module _ {ls : List Line} {verdict : Verdict} where
+  pub stands : {f : Refusal} (rest : List Line) → Judges ls verdict → verdict ≡ Refused f → Judges (ls then rest) verdict
+  stands {f} rest j e = record {
+    verdict-right = from-first (ls then rest) tt (told verdict) (ap told e ∙ handed-on ls rest tt tt (numberOf f) (detailOf f) (sym (ap told e) ∙ judge-is j));
+  }
+
+  pub not-passed : {f : Refusal} → Judges ls verdict → verdict ≡ Refused f → ¬ Passes ls
+  not-passed j e p = never (sym (ap told e) ∙ judge-is j ∙ passing ls tt p)
+
+  module _ (j : Judges ls verdict) (e : verdict ≡ Accepted) where
+    pub continues : {rest : List Line} {last : Verdict} → Judges rest last → Judges (ls then rest) last
+    continues {rest} {last} k = record { verdict-right = from-first (ls then rest) tt (told last) (judge-is k ∙ sym (goes-on ls rest tt (admitted j e))) }
+
+    -- and so of a whole call
+    pub called-on : {X : Type 0} {call : Call X} {old left : X} {last : Verdict} → Meets call old last left → Meets (record { refusals = ls then call .refusals; gives = call .gives }) old last left
+    called-on {X} {call} {old} {left} {last} m = record { verdict-right = continues {rest = call .refusals} {last = last} (record { verdict-right = m .verdict-right }) .verdict-right; left-is = m .left-is }
 
 -- A call that was judged first: where the judge admits, the work is done, and where it rejects, nothing is.
 module _ {X : Type 0} {call : Call X} {old : X} {verdict : Verdict} where

@@ -32,6 +32,11 @@ abbrev pub _then_ : List Line → List Line → List Line
 _then_ [] rest = rest
 _then_ (l ∷ ls) rest = l ∷ (ls then rest)
 
+-- their numbers, in order
+abbrev pub numbersOf : List Line → List ℕ
+numbersOf [] = []
+numbersOf (l ∷ ls) = l .number ∷ numbersOf ls
+
 -- 'Where several apply, the first in order is given.'
 abbrev pub first : {X : Type 0} → List Line → X → Answer X
 first [] x = given x
@@ -48,9 +53,12 @@ answer call = first (call .refusals) (call .gives)
 abbrev pub giving : {X Y : Type 0} → (X → Y) → Call X → Call Y
 giving f call = record { refusals = call .refusals; gives = f (call .gives) }
 
--- its judgement alone
+-- its judgement alone, and that of its lines
+abbrev pub judgedBy : List Line → Answer (Unit {0})
+judgedBy ls = first ls tt
+
 abbrev pub judgement : {X : Type 0} → Call X → Answer (Unit {0})
-judgement call = first (call .refusals) tt
+judgement call = judgedBy (call .refusals)
 
 -- what it leaves: what it gives, or, where it refuses, old, which it was given
 abbrev pub leftBy : {X : Type 0} → Call X → (old : X) → X

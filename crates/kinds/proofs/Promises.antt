@@ -5,10 +5,11 @@ use Prim.Native.Nat.{ℕ, _<_}
 use Rattle.kinds.specs.Kinds.{lanes, kindOf, entryOf, roleOf, elements}
 use Rattle.kinds.specs.Places.{placeOf}
 use Rattle.kinds.specs.Rule.{placeIn, turn}
-use Rattle.answers.specs.Refusals.{Answer, given, refusal, told, after}
-use Rattle.answers.proofs.Refusals.{refusalOf, refusal-back, one-verdict}
-use Rattle.kinds.specs.Answers.{placeAnswer, findAnswer, toldPlace, toldHolder}
-use Rattle.answers.specs.declared.Verdict.{Verdict}
+use Rattle.answers.specs.Refusals.{Answer, given, refusal}
+use Rattle.answers.specs.Contracts.{Replies}
+use Rattle.answers.proofs.Refusals.{refusalOf, refusal-back}
+use Rattle.answers.proofs.Demand1.{no-second-reply}
+use Rattle.kinds.specs.Answers.{placeCall, placeAnswer, findCall, findAnswer, toldPlace, toldHolder}
 use Rattle.kinds.specs.declared.Placed.{Placed}
 use Rattle.kinds.specs.declared.Placed.the-variants.{At, Refused as Placed·Refused}
 use Rattle.kinds.specs.declared.Held.{Held}
@@ -59,24 +60,8 @@ unfolding heldOf
 held-back (By l i) = refl
 held-back (Held·Refused f) = ap Held·Refused (refusal-back f)
 
-pub one-place : (a b : Placed) (k r l i : ℕ) → toldPlace a ≡ placeAnswer k r l i → toldPlace b ≡ placeAnswer k r l i → a ≡ b
-one-place a b k r l i = one-answer toldPlace placedOf placed-back a b (placeAnswer k r l i)
+pub one-place : (k r l i : ℕ) (a b : Placed) → Replies (placeCall k r l i) (toldPlace a) → Replies (placeCall k r l i) (toldPlace b) → a ≡ b
+one-place k r l i a b m n = one-answer toldPlace placedOf placed-back a b (toldPlace b) (no-second-reply m n) refl
 
-pub one-holder : (a b : Held) (k r x y : ℕ) → toldHolder a ≡ findAnswer k r x y → toldHolder b ≡ findAnswer k r x y → a ≡ b
-one-holder a b k r x y = one-answer toldHolder heldOf held-back a b (findAnswer k r x y)
-
--- And a verdict with what stands in a buffer, or a run, on return. Every call but place and the reverse question is promised in this form: its answer is
--- q; it leaves new where it accepts, and old, which it was given, where it refuses.
-module _ {B : Type 0} (q : Answer (Unit {0})) (new old : B) where
-  pub record Meets (verdict : Verdict) (out : B) : Type 0 where
-    pub verdict-is : told verdict ≡ q
-    pub out-is : out ≡ after (told verdict) new old
-
-  abbrev pub Only : Type 0
-  Only = (a b : Verdict) (x y : B) → Meets a x → Meets b y → (a ≡ b) × (x ≡ y)
-
-  pub only : Only
-  only a b x y m n = (
-    one-verdict a b q (m .verdict-is) (n .verdict-is),
-    m .out-is ∙ ap (λ (t : Answer (Unit {0})). after t new old) (m .verdict-is ∙ sym (n .verdict-is)) ∙ sym (n .out-is),
-  )
+pub one-holder : (k r x y : ℕ) (a b : Held) → Replies (findCall k r x y) (toldHolder a) → Replies (findCall k r x y) (toldHolder b) → a ≡ b
+one-holder k r x y a b m n = one-answer toldHolder heldOf held-back a b (toldHolder b) (no-second-reply m n) refl

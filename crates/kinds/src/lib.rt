@@ -4,7 +4,8 @@ ghost use Prim.Native.Nat.{_<_, _≤_};
 ghost use Rattle.answers.specs.Contracts.{Replies};
 ghost use Rattle.kinds.specs.Kinds.{kinds, entryOf, roleOf};
 ghost use Rattle.kinds.specs.Rule.{spread, sideOf, layoutOf, layoutsOf, Laid};
-ghost use Rattle.kinds.specs.Answers.{toldLayout, toldPlace, toldHolder, layoutAnswer, placeCall, placeBy, findCall, findBy};
+ghost use Rattle.kinds.specs.Answers.{toldPlace, toldHolder, placeCall, findCall};
+ghost use Rattle.kinds.specs.Workers.{toldLayout, layoutCall, placeCallIn, findCallIn};
 use answers::Refusal;
 
 pub mod rule;
@@ -184,7 +185,7 @@ impl Layouts {
 
 // The layout of a kind and a role, or refusal 1 or 2.
 pub fn layout_of(kind: Kind, role: Role) -> Known
-    ensures { λ r. ⌜ toldLayout r ≡ layoutAnswer (kind .0) (role .0) ⌝ }
+    ensures { λ r. ⌜ Replies (layoutCall (kind .0) (role .0)) (toldLayout r) ⌝ }
 {
     let k = kind.0;
     let r = role.0;
@@ -202,7 +203,7 @@ pub fn layout_of(kind: Kind, role: Role) -> Known
 
 fn place_in(f: Layout, lane: Lane, element: Element) -> Placed
     requires { ⌜ Laid f ⌝ }
-    ensures { λ r. ⌜ toldPlace r ≡ placeBy f (lane .0) (element .0) ⌝ }
+    ensures { λ r. ⌜ Replies (placeCallIn f (lane .0) (element .0)) (toldPlace r) ⌝ }
 {
     let l = lane.0 as usize;
     let i = element.0 as usize;
@@ -232,7 +233,7 @@ pub fn place(kind: Kind, role: Role, lane: Lane, element: Element) -> Placed
 
 fn find_in(f: Layout, x: u32, y: u32) -> Held
     requires { ⌜ Laid f ⌝ }
-    ensures { λ r. ⌜ toldHolder r ≡ findBy f (x, y) ⌝ }
+    ensures { λ r. ⌜ Replies (findCallIn f (x, y)) (toldHolder r) ⌝ }
 {
     let major = x as usize;
     let minor = y as usize;

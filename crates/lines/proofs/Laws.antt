@@ -14,11 +14,10 @@ use Rattle.laws.proofs.Choice.{or-false}
 use Rattle.kinds.specs.Kinds.{lanes}
 use Rattle.kinds.specs.Rule.{elementsOf, turn, placeIn, major, minor}
 use Rattle.answers.specs.Refusals.{Answer, given, refusal}
-use Rattle.kinds.specs.Answers.{placeAnswer, placeBy}
+use Rattle.kinds.specs.Answers.{placeAnswer}
 use Rattle.kinds.proofs.Digits.{major-lt, minor-lt}
 use Rattle.kinds.proofs.Table.{layoutAt, sane}
-use Rattle.kinds.proofs.Judged.{passed}
-use Rattle.kinds.proofs.Answers.{place-legal, place-is}
+use Rattle.kinds.proofs.Answers.{place-legal, placed-inside}
 use Rattle.lines.specs.Text.{decimal, lineOf, printed, shortText, Put}
 
 -- no text, one byte, and a text after a text
@@ -68,16 +67,13 @@ turn-lt false n x y p q = (p, q)
 turn-lt true n x y p q = (q, p)
 
 pub place-small : (k r l i : ℕ) (z : ℕ × ℕ) → placeAnswer k r l i ≡ given z → (z .0 < 1000) × (z .1 < 1000)
-unfolding placeBy
 place-small k r l i z e =
-    let ok = place-legal k r l i z e in
     let f = layoutAt k r in
-    let w = sane k r ok in
-    let a = passed (lanes ≤? l || elementsOf f ≤? i) 6 0 (given (placeIn f l i)) (place-is k r ok l i ∙ e) in
-    let b = or-false (lanes ≤? l) (elementsOf f ≤? i) (a .0) in
-    let x< = major-lt (f .side) (f .halves) (w .side-pos) (w .halves-pos) l i (leb-false lanes l (b .0)) in
-    let y< = minor-lt (f .side) (f .halves) (w .side-pos) (w .halves-pos) (f .spans) l i (leb-false (elementsOf f) i (b .1)) in
-    let same : placeIn f l i ≡ z = cc in
+    let w = sane k r (place-legal k r l i z e) in
+    let p = placed-inside k r l i z e in
+    let x< = major-lt (f .side) (f .halves) (w .side-pos) (w .halves-pos) l i (p .0) in
+    let y< = minor-lt (f .side) (f .halves) (w .side-pos) (w .halves-pos) (f .spans) l i (p .1) in
+    let same = sym (p .2) in
     rw same at (turn-lt (f .turned) 1000 (major (f .side) (f .halves) l i) (minor (f .side) (f .halves) l i) (omega arith) (omega arith))
 
 -- whole records print before what follows them, and one to three bytes `short record`

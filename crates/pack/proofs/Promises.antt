@@ -1,45 +1,32 @@
 -- What document 01 and demand 2 promise of packing, a sentence above its statement. Assumes nothing.
 use mathlib.Core.Path.{_≡_, sym, ap, _∙_, subst}
 use mathlib.Core.List.{List}
-use mathlib.Core.Bool.{not}
 use Prim.Native.Nat.{ℕ}
-use native.Mathlib.Omega.{arith}
-use borrow.Author.Tests.{eqb-true, ltb-false, not-false}
 use lib.ListN.{length, getD}
-use Rattle.laws.specs.Choice.{_<?_, _=?_}
 use Rattle.kinds.specs.Kinds.{entryOf, roleOf, bits}
 use Rattle.kinds.specs.Rule.{columnsOf}
 use Rattle.answers.specs.Refusals.{given}
 use Rattle.kinds.specs.Answers.{placeAnswer}
 use Rattle.kinds.proofs.Table.{Legal, layoutAt, bits-are}
-use Rattle.kinds.proofs.Judged.{passed, judged-given}
-use Rattle.kinds.proofs.Promises.{Only, only}
+use Rattle.answers.proofs.Shows.{passes}
 use Rattle.warp.specs.Buffers.{elementIn, index, unpackedOf, packedOf, Fitting, wordsNeeded, entriesNeeded}
 use Rattle.warp.proofs.Placed.{indexIn, placed, laid, index-is, element-is, at-rule, words-needed, entries-needed}
 use Rattle.warp.proofs.Round as round
-use Rattle.pack.specs.Answers.{firstWide, packAnswer}
-use Rattle.pack.proofs.Answers.{first-fits, first-le}
+use Rattle.pack.specs.Answers.{packCall, packAnswer}
 
 -- An accepted call had a legal kind and role, the lengths that they need, and entries that fit.
-pub pack-accepted : (k r : ℕ) (m : List ℕ) (ws : ℕ) → packAnswer k r m ws ≡ given tt → Legal k r × (length m ≡ entriesNeeded k r) × (ws ≡ wordsNeeded k r) × Fitting (bits (entryOf k) (roleOf r)) m
+pub pack-accepted : (k r : ℕ) (m ws : List ℕ) → packAnswer k r m ws ≡ given tt
+    → Legal k r × (length m ≡ entriesNeeded k r) × (length ws ≡ wordsNeeded k r) × Fitting (bits (entryOf k) (roleOf r)) m
 unfolding packAnswer
 pack-accepted k r m ws e =
-    let β = bits (entryOf k) (roleOf r) in
-    let a = judged-given k r _ tt e in
-    let b = passed (not (length m =? entriesNeeded k r)) 5 0 _ (a .1) in
-    let c = passed (not (ws =? wordsNeeded k r)) 5 1 _ (b .1) in
-    let d = passed (firstWide β m <? length m) 7 (firstWide β m) _ (c .1) in (
-      a .0,
-      eqb-true (length m) (entriesNeeded k r) (not-false _ (b .0)),
-      eqb-true ws (wordsNeeded k r) (not-false _ (c .0)),
-      first-fits β m (omega (arith, first-le β m, ltb-false (firstWide β m) (length m) (d .0))),
-    )
+    let p = passes (packCall k r m ws .refusals) tt e in
+    (record { low = search p; high = search p; role = search p }, search p, search p, search p)
 
 -- 'every field of every word is the entry at its place'
-pub packed-at : (k r : ℕ) (m : List ℕ) (n : ℕ) → packAnswer k r m n ≡ given tt → (lane i : ℕ) (x : ℕ × ℕ) → placeAnswer k r lane i ≡ given x
+pub packed-at : (k r : ℕ) (m ws : List ℕ) → packAnswer k r m ws ≡ given tt → (lane i : ℕ) (x : ℕ × ℕ) → placeAnswer k r lane i ≡ given x
     → elementIn k r (packedOf k r m) lane i ≡ getD m (indexIn k r x) 0
-packed-at k r m n a lane i x e =
-    let c = pack-accepted k r m n a in
+packed-at k r m ws a lane i x e =
+    let c = pack-accepted k r m ws a in
     let ok = c .0 in
     let p = placed k r lane i x e in
     sym (element-is k r ok (packedOf k r m) lane i)
@@ -54,16 +41,12 @@ packed-only k r ok m ws nm nw fw at =
     (λ lane i hl hi. sym (at-rule k r ok ws m (λ lane i x e. sym (at lane i x e)) lane i hl hi))
 
 -- 'Unpacking what was packed gives the matrix back': for every accepted pack.
-pub pack-unpack : (k r : ℕ) (m : List ℕ) (n : ℕ) → packAnswer k r m n ≡ given tt → unpackedOf k r (packedOf k r m) ≡ m
-pack-unpack k r m n a =
-    let c = pack-accepted k r m n a in
+pub pack-unpack : (k r : ℕ) (m ws : List ℕ) → packAnswer k r m ws ≡ given tt → unpackedOf k r (packedOf k r m) ≡ m
+pack-unpack k r m ws a =
+    let c = pack-accepted k r m ws a in
     let ok = c .0 in
     round.pack-unpack (layoutAt k r) (laid k r ok) m (subst (λ (b : ℕ). Fitting b m) (bits-are k r ok) (c .3)) (c .1 ∙ sym (entries-needed k r ok))
 
 -- 'and packing what was unpacked the words': for every warp of 32-bit words of the right length.
 pub unpack-pack : (k r : ℕ) → Legal k r → (ws : List ℕ) → length ws ≡ wordsNeeded k r → Fitting 32 ws → packedOf k r (unpackedOf k r ws) ≡ ws
 unpack-pack k r ok ws n fit = round.unpack-pack (layoutAt k r) (laid k r ok) ws fit (n ∙ sym (words-needed k r ok))
-
--- 'Show that no second answer satisfies it'.
-pub one-pack : (k r : ℕ) (m ws : List ℕ) → Only (packAnswer k r m (length ws)) (packedOf k r m) ws
-one-pack k r m ws = only _ _ _

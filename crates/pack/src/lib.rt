@@ -6,12 +6,12 @@ ghost use Rattle.laws.specs.Fields.{joined};
 ghost use Rattle.laws.specs.Toward.{stores, Brings, Below};
 ghost use Rattle.kinds.specs.Kinds.{lanes};
 ghost use Rattle.kinds.specs.Rule.{Laid, rowsOf, columnsOf};
-ghost use Rattle.answers.specs.Refusals.{told, after};
+ghost use Rattle.answers.specs.Tests.{firstOf};
 ghost use Rattle.answers.specs.Contracts.{Meets};
 ghost use Rattle.warp.specs.Buffers.{wordAt, packed, Fitting};
 ghost use Rattle.warp.specs.Stretches.{stretchesOf, holdingOf, WordsOfQuad};
-ghost use Rattle.pack.specs.Workers.{Packs};
-ghost use Rattle.pack.specs.Answers.{firstWide, packBy, packCall};
+ghost use Rattle.pack.specs.Workers.{packCallIn, Packs};
+ghost use Rattle.pack.specs.Answers.{tooWide, packCall};
 use answers::Refusal;
 use answers::Verdict;
 use kinds::Kind;
@@ -95,7 +95,7 @@ pub fn fill_words(matrix: &[u64], words: &mut [u32], f: Layout)
 // The index of the first entry that doesn't fit, or the length.
 fn first_wide(matrix: &[u64], bits: usize) -> usize
     requires { ⌜ (0 < bits) × (bits ≤ 64) ⌝ }
-    ensures { λ r. ⌜ r ≡ firstWide bits (now (matrix .entry)) ⌝ }
+    ensures { λ r. ⌜ r ≡ firstOf (length (now (matrix .entry))) (tooWide bits (now (matrix .entry))) ⌝ }
 {
     let most: u64 = 18446744073709551615 >> (64 - bits);
     let mut i = 0;
@@ -110,8 +110,7 @@ fn first_wide(matrix: &[u64], bits: usize) -> usize
 
 fn pack_in(f: Layout, matrix: &[u64], words: &mut [u32]) -> Verdict
     requires { ⌜ Laid f ⌝ }
-    ensures { λ r. ⌜ told r ≡ packBy f (now (matrix .entry)) (length (now (words .entry))) ⌝ }
-    ensures { λ r. ⌜ now (words .exit) ≡ after (told r) (packed f (now (matrix .entry))) (now (words .entry)) ⌝ }
+    ensures { λ r. ⌜ Meets (packCallIn f (now (matrix .entry)) (now (words .entry))) (now (words .entry)) r (now (words .exit)) ⌝ }
 {
     let each = f.words;
     let bits = f.bits;

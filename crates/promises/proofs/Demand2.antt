@@ -1,7 +1,7 @@
 -- Demand 2, a sentence above its statement: 'For the ten kinds, every place, unpacked matrix, packed warp and integer or one-bit step is what
 -- the PTX rules say. Unpacking what was packed gives the matrix back, and packing what was unpacked the words.' Assumes nothing.
 use mathlib.Core.Path.{_≡_, refl, sym, ap, subst, _∙_}
-use mathlib.Core.Logic.{_↔_, _≢_}
+use mathlib.Core.Logic.{_↔_, _≢_, ⊎-elim}
 use mathlib.Core.List.{List}
 use Prim.Native.Nat.{ℕ, _+_, _*_, _/_, _%_, _^_, _<_, _≤_}
 use native.Mathlib.Nat.{mul-le-mul-left, mod-lt, div-add-mod', div-lt-iff-lt-mul}
@@ -18,9 +18,10 @@ use Rattle.laws.specs.Totals.{Wraps}
 use Rattle.kinds.specs.Kinds.{kindOf, entryOf, roleOf, rows, columns, bits, words, elements}
 use Rattle.kinds.specs.Places.{placeOf}
 use Rattle.answers.specs.Refusals.{given}
-use Rattle.kinds.specs.Answers.{placeAnswer, findAnswer}
+use Rattle.kinds.specs.Answers.{placeCall, placeAnswer, findAnswer}
+use Rattle.answers.proofs.Demand1.{given-when}
 use Rattle.kinds.specs.Rule.{elementsOf, holderOf}
-use Rattle.kinds.proofs.Answers.{place-is, rule-placed}
+use Rattle.kinds.proofs.Answers.{rule-placed}
 use Rattle.kinds.proofs.Table.{Legal, layoutAt, elements-are, rows-are, columns-are, bits-are, words-are, sane}
 use Rattle.kinds.proofs.Promises as places
 use Rattle.warp.specs.Buffers.{elementAt, elementIn, unpackedOf, packedOf, wordsNeeded, entriesNeeded}
@@ -33,14 +34,17 @@ use Rattle.pack.specs.Answers.{packAnswer}
 use Rattle.pack.proofs.Promises as packing
 use Rattle.step.specs.Step.{entryIn, depth, half, unsignedA, unsignedB, products, combinedBits, added, resultAt, results, stepped}
 use Rattle.cell.specs.Limits.{cellOf}
-use Rattle.step.specs.Answers.{Ready, stepAnswer}
+use Rattle.step.specs.Answers.{stepAnswer}
+use Rattle.step.specs.Workers.{Ready}
 use Rattle.step.proofs.Promises as steps
-use Rattle.promises.proofs.Examples.{place-given}
 
 -- 'every place': of every kind, role, lane and element that there is, the place is that of the clause in kinds/specs/Places.
 pub place-at : (k r lane i : ℕ) → 1 ≤ k → k ≤ 10 → r ≤ 2 → lane ≤ 31 → i < elements (entryOf k) (roleOf r)
     → placeAnswer k r lane i ≡ given (placeOf (kindOf k) (roleOf r) lane i)
-place-at k r lane i low high role l h = place-given k r lane i .1 (low, high, role, l, h)
+unfolding placeAnswer
+place-at k r lane i low high role l h =
+    given-when (placeCall k r lane i) .1
+    (λ n. n (low, high), (λ n. omega (arith, n, role), (⊎-elim (λ m. omega (arith, l, m)) (λ m. omega (arith, h, m)), tt)))
 
 -- 'one to one, and the reverse question is answered too', for all numbers, legal or not
 pub one-to-one : (k r lane i row column : ℕ) → (placeAnswer k r lane i ≡ given (row, column)) ↔ (findAnswer k r row column ≡ given (lane, i))
@@ -60,7 +64,7 @@ exactly-one k r low high role row column hr hc =
     let hc′ = subst (λ (n : ℕ). column < n) (columns-are k r ok) hc in
     let z = holderOf f (row, column) in
     let there : placeAnswer k r (z .0) (z .1) ≡ given (row, column)
-    = sym (place-is k r ok (z .0) (z .1)) ∙ rule-placed f (z .0) (z .1) (lane-in f w row column hr′ hc′) (element-in f w row column hr′ hc′) ∙ ap given (place-back f w row column hr′ hc′) in
+    = rule-placed k r ok (z .0) (z .1) (lane-in f w row column hr′ hc′) (element-in f w row column hr′ hc′) ∙ ap given (place-back f w row column hr′ hc′) in
     (z, there, λ lane i e. only-one k r row column (lane, i) z e there)
   where
     only-one : (k r row column : ℕ) (y z : ℕ × ℕ) → placeAnswer k r (y .0) (y .1) ≡ given (row, column) → placeAnswer k r (z .0) (z .1) ≡ given (row, column) → y ≡ z
@@ -118,9 +122,9 @@ pub unpacked-only : (k r : ℕ) → 1 ≤ k → k ≤ 10 → r ≤ 2 → (ws m :
 unpacked-only k r low high role ws m n at = unpacking.unpacked-only k r (legal k r low high role) ws m n (λ lane i x e. at lane i (x .0) (x .1) e)
 
 -- 'packed warp': after an accepted pack each element of each lane is the entry at its place,
-pub packed-at : (k r : ℕ) (m ws : List ℕ) → packAnswer k r m (length ws) ≡ given tt → (lane i row column : ℕ) → placeAnswer k r lane i ≡ given (row, column)
+pub packed-at : (k r : ℕ) (m ws : List ℕ) → packAnswer k r m ws ≡ given tt → (lane i row column : ℕ) → placeAnswer k r lane i ≡ given (row, column)
     → elementIn k r (packedOf k r m) lane i ≡ getD m (row * columns (entryOf k) (roleOf r) + column) 0
-packed-at k r m ws a lane i row column e = packing.packed-at k r m (length ws) a lane i (row, column) e
+packed-at k r m ws a lane i row column e = packing.packed-at k r m ws a lane i (row, column) e
 
 -- and no other 32-bit words of that length have this.
 pub packed-only : (k r : ℕ) → 1 ≤ k → k ≤ 10 → r ≤ 2 → (m ws : List ℕ) → length m ≡ entriesNeeded k r → length ws ≡ wordsNeeded k r
@@ -130,8 +134,8 @@ pub packed-only : (k r : ℕ) → 1 ≤ k → k ≤ 10 → r ≤ 2 → (m ws : L
 packed-only k r low high role m ws nm nw fit at = packing.packed-only k r (legal k r low high role) m ws nm nw fit (λ lane i x e. at lane i (x .0) (x .1) e)
 
 -- 'Unpacking what was packed gives the matrix back'
-pub pack-unpack : (k r : ℕ) (m ws : List ℕ) → packAnswer k r m (length ws) ≡ given tt → unpackedOf k r (packedOf k r m) ≡ m
-pack-unpack k r m ws a = packing.pack-unpack k r m (length ws) a
+pub pack-unpack : (k r : ℕ) (m ws : List ℕ) → packAnswer k r m ws ≡ given tt → unpackedOf k r (packedOf k r m) ≡ m
+pack-unpack k r m ws a = packing.pack-unpack k r m ws a
 
 -- 'and packing what was unpacked the words.'
 pub unpack-pack : (k r : ℕ) → 1 ≤ k → k ≤ 10 → r ≤ 2 → (ws : List ℕ) → length ws ≡ wordsNeeded k r → ((x : ℕ) → x < length ws → getD ws x 0 < 2 ^ 32)

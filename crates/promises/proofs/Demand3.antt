@@ -18,17 +18,15 @@ use Rattle.laws.proofs.Integers.{wraps-only}
 use Rattle.kinds.specs.Kinds.{entryOf, roleOf, rows, columns}
 use Rattle.answers.specs.Refusals.{Answer, given, refusal, after}
 use Rattle.step.specs.Step.{entryIn, depth, half, unsignedA, unsignedB, products, combinedBits, added}
-use Rattle.step.specs.Answers.{Ready}
+use Rattle.step.specs.Workers.{Ready}
 use Rattle.step.proofs.Matrices.{entry-lt}
 use Rattle.run.specs.declared.Run.{Run}
 use Rattle.run.specs.Runs.{zeros, withUsed, usedOf, openedRun}
 use Rattle.run.specs.Answers.{openAnswer, feedAnswer, readAnswer}
-use Rattle.run.specs.Blocks.{Block, fedAll, AllAccepted, acceptedOf, contributions, sumAt}
+use Rattle.run.specs.Blocks.{Block, fedAll, AllAccepted, AllSized, acceptedOf, contributions, sumAt}
 use Rattle.run.proofs.Laws.{open-accepted}
-use Rattle.run.proofs.Demand.{fed-kept}
+use Rattle.run.proofs.Demand.{fed-kept, accepted-all as accepted-each, sized-all}
 use Rattle.run.proofs.Promises as runs
-use Rattle.promises.specs.Blocks.{AllSized}
-use Rattle.promises.proofs.Accepted.{all-accepted, all-sized}
 
 -- What a block contributes to a place: the exact products, or in the one-bit form the count of ones.
 pub contribution-integer : (k signs mode : ℕ) → 2 ≤ k → (x : Block) (row column : ℕ)
@@ -50,10 +48,10 @@ module _ (k signs mode : ℕ) (c : List ℕ) (opened : openAnswer k signs mode (
   -- '0 to 4,096 blocks': blocks fed into it are accepted throughout exactly when there are at most 4,096, each of the lengths needed.
   pub accepted-all : (xs : List Block) → AllAccepted (openedRun k signs mode c) xs ↔ ((length xs ≤ 4096) × AllSized k xs)
   unfolding openedRun
-  accepted-all xs = (there, λ s. all-accepted k signs mode ready 0 (withUsed c zeros) xs (omega (arith, s .0)) (s .1))
+  accepted-all xs = (there, λ s. accepted-each k signs mode ready 0 (withUsed c zeros) xs (omega (arith, s .0)) (s .1))
     where
       there : AllAccepted (openedRun k signs mode c) xs → (length xs ≤ 4096) × AllSized k xs
-      there a = let s = all-sized k signs mode ready 0 (withUsed c zeros) xs (omega arith) a in (omega (arith, s .0), s .1)
+      there a = let s = sized-all k signs mode ready 0 (withUsed c zeros) xs (omega arith) a in (omega (arith, s .0), s .1)
 
   -- The number in the run is the number of blocks,
   pub counted : (xs : List Block) → length xs ≤ 4096 → AllSized k xs → fedAll (openedRun k signs mode c) xs .blocks ≡ length xs

@@ -17,15 +17,14 @@ use Rattle.warp.proofs.Placed.{words-needed}
 use Rattle.warp.proofs.Round as round
 use Rattle.step.specs.Step.{entryIn, added, limit, resultAt, results, stepped}
 use Rattle.cell.specs.Limits.{cellOf}
-use Rattle.step.specs.Answers.{Ready}
-use Rattle.step.proofs.Accepted.{selectors-ok}
+use Rattle.step.specs.Workers.{Ready}
 use Rattle.step.proofs.Matrices.{legal}
 use Rattle.step.proofs.Promises.{rowsD, columnsD, result-at}
 use Rattle.run.specs.declared.Run.{Run}
 use Rattle.run.specs.Runs.{runOf, withUsed, usedOf, fedRun}
 use Rattle.run.specs.Answers.{feedAnswer}
-use Rattle.run.specs.Blocks.{Block, fedBy, fedAll, AllAccepted, contributions}
-use Rattle.run.proofs.Laws.{feed-accepted}
+use Rattle.run.specs.Blocks.{Block, fedBy, fedAll, AllAccepted, Sized, AllSized, contributions}
+use Rattle.run.proofs.Laws.{feed-accepted, feed-accepts}
 
 -- a word after what each block adds
 unfoldable pub fedCell : (mode w : ℕ) → List ℤ → ℕ
@@ -102,26 +101,17 @@ module _ (k signs mode : ℕ) (ok : Ready k signs mode) where
       (r .0, ap (λ (r : Run). fedAll r xs) g ∙ r .1 ∙ ap (λ (m : ℕ). runOf k signs mode m (r .0)) e)
 
   -- blocks are accepted exactly where each has the lengths needed and there are not too many
-  abbrev Sized : Block → Type 0
-  Sized x = (length (x .a) ≡ wordsNeeded k 0) × (length (x .b) ≡ wordsNeeded k 1)
+  accepted-one : (n : ℕ) (sums : List ℕ) (x : Block) → n < 4096 → Sized k x → feedAnswer (runOf k signs mode n sums) (length (x .a)) (length (x .b)) ≡ given tt
+  accepted-one n sums x h s = feed-accepts (runOf k signs mode n sums) (length (x .a)) (length (x .b)) ok h (s .0) (s .1)
 
-  accepted-one : (n : ℕ) (sums : List ℕ) (x : Block) → n < 4096 → Sized x → feedAnswer (runOf k signs mode n sums) (length (x .a)) (length (x .b)) ≡ given tt
-  unfolding feedAnswer
-  accepted-one n sums x h s =
-      simp (le-leb 1 k (ok .low), le-leb k 5 (ok .high), selectors-ok k signs mode ok, le-ltb 4096 n (omega arith), lt-leb 4096 n h, eq-eqb (length (x .a)) (wordsNeeded k 0) (s .0), eq-eqb (length (x .b)) (wordsNeeded k 1) (s .1))
-
-  abbrev AllSized : List Block → Type 0
-  AllSized [] = Unit {0}
-  AllSized (x ∷ xs) = Sized x × AllSized xs
-
-  accepted-all : (n : ℕ) (sums : List ℕ) (xs : List Block) → n + length xs ≤ 4096 → AllSized xs → AllAccepted (runOf k signs mode n sums) xs
+  pub accepted-all : (n : ℕ) (sums : List ℕ) (xs : List Block) → n + length xs ≤ 4096 → AllSized k xs → AllAccepted (runOf k signs mode n sums) xs
   unfolding AllAccepted
   accepted-all n sums [] h s = tt
   accepted-all n sums (x ∷ xs) h s =
       let e = accepted-one n sums x (omega arith) (s .0) in
       (e, subst (λ (r : Run). AllAccepted r xs) (sym (fed-is n sums x e)) (accepted-all (n + 1) (next n sums x e) xs (omega arith) (s .1)))
 
-  sized-all : (n : ℕ) (sums : List ℕ) (xs : List Block) → n ≤ 4096 → AllAccepted (runOf k signs mode n sums) xs → (n + length xs ≤ 4096) × AllSized xs
+  pub sized-all : (n : ℕ) (sums : List ℕ) (xs : List Block) → n ≤ 4096 → AllAccepted (runOf k signs mode n sums) xs → (n + length xs ≤ 4096) × AllSized k xs
   unfolding AllAccepted
   sized-all n sums [] h a = (omega arith, tt)
   sized-all n sums (x ∷ xs) h a =
@@ -129,10 +119,10 @@ module _ (k signs mode : ℕ) (ok : Ready k signs mode) where
       let r = sized-all (n + 1) (next n sums x (a .0)) xs (omega (arith, f .1)) (subst (λ (r : Run). AllAccepted r xs) (fed-is n sums x (a .0)) (a .1)) in
       (omega (arith, r .0), ((f .2, f .3), r .1))
 
-  sized-perm : {xs ys : List Block} → List·Permᴰ xs ys → AllSized xs → AllSized ys
+  sized-perm : {xs ys : List Block} → List·Permᴰ xs ys → AllSized k xs → AllSized k ys
   sized-perm List·Permᴰ·nil h = tt
-  sized-perm (List·Permᴰ·cons e d) h = (subst Sized e (h .0), sized-perm d (h .1))
-  sized-perm (List·Permᴰ·swap e f) h = (subst Sized f (h .1 .0), (subst Sized e (h .0), h .1 .1))
+  sized-perm (List·Permᴰ·cons e d) h = (subst (Sized k) e (h .0), sized-perm d (h .1))
+  sized-perm (List·Permᴰ·swap e f) h = (subst (Sized k) f (h .1 .0), (subst (Sized k) e (h .0), h .1 .1))
   sized-perm (List·Permᴰ·trans d e) h = sized-perm e (sized-perm d h)
 
   -- so blocks that are accepted in one order are accepted in every order

@@ -6,7 +6,7 @@ use mathlib.Core.Logic.{_⊎_, inl, inr}
 use mathlib.Core.List.{List, [], _∷_, List·Permᴰ}
 use Prim.Native.Nat.{ℕ, _+_, _^_, _<_, _≤_}
 use native.Mathlib.Omega.{arith}
-use borrow.Author.Tests.{eq-eqb, ne-eqb, le-leb, le-ltb}
+use borrow.Author.Tests.{eq-eqb, ne-eqb, le-leb}
 use lib.IntN.{ℤ, _+ℤ_}
 use lib.ListN.{length, take, drop}
 use lib.Seq.{take-at}
@@ -15,18 +15,17 @@ use Rattle.laws.specs.Integers.{int32, clamp}
 use Rattle.laws.specs.Totals.{total, wrappedBy, clampedBy, clampedEach, NoneNegative, NonePositive, Wraps}
 use Rattle.laws.proofs.Totals.{fed-wraps, fed-up, fed-down, fed-clamped}
 use Rattle.answers.specs.Refusals.{Answer, given, refusal, after}
-use Rattle.kinds.proofs.Promises.{Only, only}
+use Rattle.answers.proofs.Shows.{deny}
 use Rattle.warp.specs.Buffers.{wordsNeeded}
 use Rattle.step.specs.Step.{entryIn, depth, limit}
-use Rattle.step.specs.Answers.{Ready}
-use Rattle.step.proofs.Accepted.{selectors-ok}
+use Rattle.step.specs.Workers.{Ready}
 use Rattle.step.proofs.Matrices.{entry-lt}
 use Rattle.step.proofs.Promises.{rowsD, columnsD, same-added}
 use Rattle.run.specs.declared.Run.{Run}
-use Rattle.run.specs.Runs.{runOf, zeros, withUsed, usedOf, openedRun, zeroRun, fedRun}
-use Rattle.run.specs.Answers.{openAnswer, feedAnswer, readAnswer}
+use Rattle.run.specs.Runs.{runOf, zeros, withUsed, usedOf, openedRun, fedRun}
+use Rattle.run.specs.Answers.{badRun, openAnswer, feedAnswer}
 use Rattle.run.specs.Blocks.{Block, fedBy, fedAll, AllAccepted, kept, acceptedOf, contributions, sumAt}
-use Rattle.run.proofs.Laws.{open-accepted}
+use Rattle.run.proofs.Laws.{open-accepted, sound-back}
 use Rattle.run.proofs.Demand.{fedCell, wraps-each, clamps-each, fed-at, fed-kept, accepted-order, added-perm}
 
 -- a newly opened run of kind k, and a place of D
@@ -112,7 +111,7 @@ module _ (k signs mode : ℕ) (c : List ℕ) (accepted : openAnswer k signs mode
   -- The 4,097th is refused 9 and changes nothing.
   full-at : (n : ℕ) (ws : List ℕ) (a b : ℕ) → n ≡ 4096 → feedAnswer (runOf k signs mode n ws) a b ≡ refusal 9 0
   unfolding feedAnswer
-  full-at n ws a b e = simp (le-leb 1 k (ok .low), le-leb k 5 (ok .high), selectors-ok k signs mode ok, le-ltb 4096 n (omega arith), le-leb 4096 n (omega arith))
+  full-at n ws a b e = rw (deny (badRun (runOf k signs mode n ws)) (sound-back (runOf k signs mode n ws) ok (omega arith)), le-leb 4096 n (omega arith)) refl
 
   pub no-more : (xs : List Block) → AllAccepted (openedRun k signs mode c) xs → length xs ≡ 4096
       → (a b : ℕ) → feedAnswer (fedAll (openedRun k signs mode c) xs) a b ≡ refusal 9 0
@@ -170,13 +169,3 @@ own-row k signs mode c c′ o o′ row hr same xs ys a b h column hc =
     sum-is k signs mode c o row column hr hc xs a
     ∙ ap₂ (λ (w : ℕ) (zs : List ℤ). int32 (fedCell (limit k mode) w zs)) (same column hc) (same-adds k signs mode row column hc xs ys h)
     ∙ sym (sum-is k signs mode c′ o′ row column hr hc ys b)
-
--- 'Show that no second answer satisfies it', a call at a time; the run that read hands back is the one it was given.
-pub one-open : (k signs mode : ℕ) (c : List ℕ) → Only (openAnswer k signs mode (length c)) (openedRun k signs mode c) zeroRun
-one-open k signs mode c = only _ _ _
-
-pub one-feed : (run : Run) (a b : List ℕ) → Only (feedAnswer run (length a) (length b)) (fedRun run a b) run
-one-feed run a b = only _ _ _
-
-pub one-read : (run : Run) (d : List ℕ) → Only (readAnswer run (length d)) (usedOf run) d
-one-read run d = only _ _ _

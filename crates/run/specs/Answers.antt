@@ -1,10 +1,9 @@
 -- Document 01, 'Refusal numbers': open 1, 3, 4, 5 (C); feed 10, 9, 5 (A, B); read 10, 5 (D). Assumes nothing.
 use Prim.Native.Nat.{ℕ}
-use mathlib.Core.Bool.{Bool}
 use mathlib.Core.List.{List, [], _∷_}
 use lib.ListN.{length}
 use Rattle.answers.specs.Refusals.{Answer}
-use Rattle.answers.specs.Tests.{Test, over, reaches, differs, either, unless, within, holds}
+use Rattle.answers.specs.Tests.{Test, over, reaches, differs, either, unless, within}
 use Rattle.answers.specs.Calls.{Line, _when_, _at_when_, _then_, first, Call}
 use Rattle.warp.specs.Buffers.{wordsNeeded}
 use Rattle.step.specs.Answers.{badSelectors, selectorRefusals}
@@ -19,18 +18,12 @@ maxBlocks = 4096
 abbrev pub fullRun : Run → Test
 fullRun run = reaches (run .blocks) maxBlocks
 
-abbrev pub full : Run → Bool
-full run = holds (fullRun run)
-
 -- 10: a run's kind is not 1 to 5, its selectors break 4, or its count is over 4,096
 abbrev pub badRun : Run → Test
 badRun run =
     either
     (either (unless (within (run .kind .0) 1 5)) (badSelectors (run .kind .0) (run .signs .0) (run .mode .0)))
     (over (run .blocks) maxBlocks)
-
-abbrev pub noRun : Run → Bool
-noRun run = holds (badRun run)
 
 -- by the lengths of the buffers
 abbrev pub openRefusals : (kind signs mode c : ℕ) → List Line
@@ -45,10 +38,7 @@ feedRefusals run a b =
     ∷ []
 
 abbrev pub readRefusals : Run → (d : ℕ) → List Line
-readRefusals run d =
-    10 when badRun run
-    ∷ 5 at 0 when differs d (wordsNeeded (run .kind .0) 2)
-    ∷ []
+readRefusals run d = 10 when badRun run ∷ 5 at 0 when differs d (wordsNeeded (run .kind .0) 2) ∷ []
 
 abbrev pub openCall : (kind signs mode : ℕ) (c : List ℕ) → Call Run
 openCall kind signs mode c = record { refusals = openRefusals kind signs mode (length c); gives = openedRun kind signs mode c }

@@ -6,6 +6,7 @@ use lib.IntN.{ℤ}
 use lib.ListN.{length}
 use Rattle.laws.specs.Integers.{int32}
 use Rattle.answers.specs.Refusals.{Answer, given, refusal, after}
+use Rattle.warp.specs.Buffers.{wordsNeeded}
 use Rattle.step.specs.Step.{entryIn, added}
 use Rattle.run.specs.declared.Run.{Run}
 use Rattle.run.specs.Runs.{usedOf, fedRun}
@@ -29,6 +30,14 @@ fedAll run (x ∷ xs) = fedAll (fedBy run x) xs
 unfoldable pub AllAccepted : Run → List Block → Type 0
 AllAccepted run [] = Unit {0}
 AllAccepted run (x ∷ xs) = (feedAnswer run (length (x .a)) (length (x .b)) ≡ given tt) × AllAccepted (fedBy run x) xs
+
+-- each one's A and B of the lengths that the kind needs
+abbrev pub Sized : (kind : ℕ) → Block → Type 0
+Sized kind x = (length (x .a) ≡ wordsNeeded kind 0) × (length (x .b) ≡ wordsNeeded kind 1)
+
+abbrev pub AllSized : (kind : ℕ) → List Block → Type 0
+AllSized kind [] = Unit {0}
+AllSized kind (x ∷ xs) = Sized kind x × AllSized kind xs
 
 -- those of them that were accepted, in the order fed
 abbrev pub kept : Answer (Unit {0}) → Block → List Block → List Block

@@ -2,13 +2,13 @@
 ghost use mathlib.Core.Path.{_≡_};
 ghost use Prim.Native.Nat.{_<_};
 ghost use lib.ListN.{length};
-ghost use Rattle.laws.specs.Choice.{if_then_else_};
-ghost use Rattle.answers.specs.Refusals.{told, given, refusal};
-ghost use Rattle.answers.specs.Contracts.{Meets};
+ghost use mathlib.Core.List.{[], _∷_};
+ghost use Rattle.answers.specs.Calls.{_when_};
+ghost use Rattle.answers.specs.Contracts.{Meets, Judges};
 ghost use Rattle.warp.specs.Buffers.{wordsNeeded};
-ghost use Rattle.step.specs.Answers.{Ready};
+ghost use Rattle.step.specs.Workers.{Ready};
 ghost use Rattle.run.specs.Runs.{openedRun, zeroRun, fedRun};
-ghost use Rattle.run.specs.Answers.{maxBlocks, noRun, openAnswer, feedAnswer, readAnswer, openCall, feedCall, readCall};
+ghost use Rattle.run.specs.Answers.{maxBlocks, badRun, openRefusals, feedRefusals, readRefusals, openCall, feedCall, readCall};
 use answers::Refusal;
 use answers::Verdict;
 use kinds::Kind;
@@ -64,7 +64,7 @@ impl Run {
 
     // Refusals 1, 3, 4 and 5 of an opening.
     fn judge_open(kind: Kind, signs: Signs, mode: Mode, c: usize) -> Verdict
-        ensures { λ r. ⌜ told r ≡ openAnswer (kind .0) (signs .0) (mode .0) c ⌝ }
+        ensures { λ r. ⌜ Judges (openRefusals (kind .0) (signs .0) (mode .0) c) r ⌝ }
     {
         let verdict = step::judge(kind, signs, mode);
         let Verdict::Accepted = verdict else {
@@ -101,7 +101,7 @@ impl Run {
 
     // Refusal 10.
     fn judge(self) -> Verdict
-        ensures { λ r. ⌜ told r ≡ (if noRun self then refusal 10 0 else given tt) ⌝ }
+        ensures { λ r. ⌜ Judges (10 when badRun self ∷ []) r ⌝ }
     {
         let kind = self.kind;
         let signs = self.signs;
@@ -118,7 +118,7 @@ impl Run {
 
     // Refusals 10, 9 and 5 of a feed.
     fn judge_feed(self, a: usize, b: usize) -> Verdict
-        ensures { λ r. ⌜ told r ≡ feedAnswer self a b ⌝ }
+        ensures { λ r. ⌜ Judges (feedRefusals self a b) r ⌝ }
     {
         let kind = self.kind;
         let verdict = self.judge();
@@ -179,7 +179,7 @@ impl Run {
 
     // Refusals 10 and 5 of a read.
     fn judge_read(self, d: usize) -> Verdict
-        ensures { λ r. ⌜ told r ≡ readAnswer self d ⌝ }
+        ensures { λ r. ⌜ Judges (readRefusals self d) r ⌝ }
     {
         let kind = self.kind;
         let verdict = self.judge();

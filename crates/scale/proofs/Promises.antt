@@ -9,10 +9,10 @@ use Rattle.laws.specs.Lists.{tab}
 use Rattle.laws.proofs.Lists.{length-tab, getD-tab}
 use Rattle.kinds.specs.Kinds.{lanes}
 use Rattle.answers.specs.Refusals.{refusal}
-use Rattle.kinds.proofs.Promises.{Only, only}
+use Rattle.answers.specs.Calls.{judgedBy}
 use Rattle.answers.specs.Tests.{Says}
 use Rattle.scale.specs.Bytes.{legalThreadId, takes, chosenLanes, byteOf, chosenBytes, exponent, scaled, outputLength}
-use Rattle.scale.specs.Answers.{scaleAnswer}
+use Rattle.scale.specs.Answers.{scaleRefusals}
 use Rattle.scale.proofs.Laws.{same-bytes, scaled-length}
 
 -- Two metadata buffers that agree in the chosen bytes give the same output: no other byte matters.
@@ -35,11 +35,6 @@ chosen-only size side byteId threadId m n h =
 pub output-length : (size side byteId threadId : ℕ) (m : List ℕ) → Says (legalThreadId side threadId) → length (scaled size side byteId threadId m) ≡ outputLength size side
 output-length = scaled-length
 
--- 'Show that no second answer satisfies it'.
-pub one-scale : (size side byteId threadId : ℕ) (metadata : List ℕ) (old : List ℤ)
-    → Only (scaleAnswer size side byteId threadId (length metadata) (length old)) (scaled size side byteId threadId metadata) old
-one-scale size side byteId threadId metadata old = only _ _ _
-
 -- Bench figures: metadata word 807F0100 (hexadecimal), size 1, byte-id 0 to 3: -127, -126, 0, 1. Size 2, byte-id 2: 0, 1. Size 2,
 -- byte-id 1: refusal 8, detail 2. What lane 0 gives stands first, and every lane holds the word.
 abbrev firsts : ℕ × ℕ → List ℤ
@@ -48,6 +43,6 @@ firsts f = take (f .0) (scaled (f .0) 0 (f .1) 0 (tab lanes (λ lane. 2155806976
 pub figures :
     (map firsts ((1, 0) ∷ (1, 1) ∷ (1, 2) ∷ (1, 3) ∷ (2, 2) ∷ [])
     ≡ (negsuc 126 ∷ []) ∷ (negsuc 125 ∷ []) ∷ (pos 0 ∷ []) ∷ (pos 1 ∷ []) ∷ (pos 0 ∷ pos 1 ∷ []) ∷ [])
-    × (scaleAnswer 2 0 1 0 32 32 ≡ refusal 8 2)
-unfolding scaled chosenBytes chosenLanes tab scaleAnswer
+    × (judgedBy (scaleRefusals 2 0 1 0 32 32) ≡ refusal 8 2)
+unfolding scaled chosenBytes chosenLanes tab
 figures = (refl, refl)

@@ -3,9 +3,8 @@ use Prim.Native.Nat.{ℕ}
 use mathlib.Core.List.{List, [], _∷_}
 use lib.IntN.{ℤ}
 use lib.ListN.{length}
-use Rattle.answers.specs.Refusals.{Answer}
 use Rattle.answers.specs.Tests.{differs, unless}
-use Rattle.answers.specs.Calls.{Line, _at_when_, first, Call}
+use Rattle.answers.specs.Calls.{Line, _at_when_, Call}
 use Rattle.scale.specs.Bytes.{legalSize, legalSide, legalByteId, legalThreadId, metadataLength, outputLength, scaled}
 
 -- by the lengths of the two buffers
@@ -24,6 +23,3 @@ scaleCall size side byteId threadId metadata output = record {
   refusals = scaleRefusals size side byteId threadId (length metadata) (length output);
   gives = scaled size side byteId threadId metadata;
 }
-
-unfoldable pub scaleAnswer : (size side byteId threadId metadata output : ℕ) → Answer (Unit {0})
-scaleAnswer size side byteId threadId metadata output = first (scaleRefusals size side byteId threadId metadata output) tt

@@ -121,7 +121,7 @@ module _ (k signs mode a b c : ℕ) (result : ℤ) where
   pub steps : Computed → Steps k signs mode A B C result
   unfolding resultAt
   steps t =
-      let ok = step-accepted k signs mode (wordsNeeded k 0) (wordsNeeded k 1) (wordsNeeded k 2) (wordsNeeded k 2) (t .0) .0 in (
+      let ok = step-accepted k signs mode (wordsNeeded k 0) (wordsNeeded k 1) (wordsNeeded k 2) (wordsNeeded k 2) (t .0) in (
         rw (length-is k 0 a, length-is k 1 b, length-is k 2 c) (t .0),
         λ row column hr hc.
             ap int32

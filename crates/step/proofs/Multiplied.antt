@@ -17,7 +17,7 @@ use Rattle.kinds.proofs.Digits.{major-lt, minor-lt}
 use Rattle.kinds.proofs.Table.{layoutAt, sane}
 use Rattle.step.specs.Step.{entryIn, depth, half, unsignedA, unsignedB, products, added, resultAt, stepped}
 use Rattle.cell.specs.Limits.{cellOf}
-use Rattle.step.specs.Answers.{Ready}
+use Rattle.step.specs.Workers.{Ready}
 use Rattle.sums.specs.Sums.{offsetOf, digit, digitAt, offsetDot, digitsWord, digitsWords, Digits, Summable}
 use Rattle.sums.specs.declared.Offsets.{Offsets}
 use Rattle.sums.proofs.OffsetDots.{element-lt, dot-digits, offset-ext}

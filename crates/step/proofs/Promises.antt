@@ -4,7 +4,6 @@ use mathlib.Core.List.{List}
 use Prim.Native.Nat.{ℕ, _^_, _<_, _≤_}
 use native.Mathlib.Omega.{arith}
 use lib.IntN.{ℤ, pos, negsuc, _+ℤ_, _*ℤ_}
-use lib.ListN.{length}
 use Rattle.laws.specs.Choice.{if_then_else_}
 use Rattle.laws.specs.Bits.{combine, onesIn}
 use Rattle.laws.specs.Integers.{value, int32, clamp}
@@ -15,10 +14,10 @@ use Rattle.laws.proofs.Totals.{clamp-word}
 use Rattle.kinds.specs.Kinds.{entryOf, roleOf, rows, columns}
 use Rattle.answers.specs.Refusals.{given}
 use Rattle.kinds.proofs.Table.{rows-are, columns-are}
-use Rattle.kinds.proofs.Promises.{Only, only}
 use Rattle.step.specs.Step.{entryIn, depth, half, unsignedA, unsignedB, products, combinedBits, oneBit, added, limit, resultAt, stepped}
 use Rattle.cell.specs.Limits.{cellOf}
-use Rattle.step.specs.Answers.{Ready, stepAnswer, plainAnswer}
+use Rattle.step.specs.Answers.{stepAnswer}
+use Rattle.step.specs.Workers.{Ready}
 use Rattle.step.proofs.Accepted.{step-accepted}
 use Rattle.step.proofs.Matrices.{legal, entry-D}
 
@@ -79,14 +78,7 @@ module _ (k signs mode row : ℕ) (a a′ b b′ c c′ : List ℕ)
       → entryIn k 2 (stepped k signs mode a b c) row column ≡ entryIn k 2 (stepped k signs mode a′ b′ c′) row column
   unfolding resultAt
   own-row na nb nc nd e hr column hc =
-      let ok = step-accepted k signs mode na nb nc nd e .0 in
+      let ok = step-accepted k signs mode na nb nc nd e in
       result-at k signs mode ok a b c row column hr hc
       ∙ ap₂ (cellOf (limit k mode)) (same-c column hc) (same-added column hc)
       ∙ sym (result-at k signs mode ok a′ b′ c′ row column hr hc)
-
--- 'Show that no second answer satisfies it', a call at a time.
-pub one-step : (k signs mode : ℕ) (a b c d : List ℕ) → Only (stepAnswer k signs mode (length a) (length b) (length c) (length d)) (stepped k signs mode a b c) d
-one-step k signs mode a b c d = only _ _ _
-
-pub one-plain-step : (k : ℕ) (a b c d : List ℕ) → Only (plainAnswer k (length a) (length b) (length c) (length d)) (stepped k 0 0 a b c) d
-one-plain-step k a b c d = only _ _ _

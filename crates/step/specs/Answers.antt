@@ -1,14 +1,11 @@
 -- Document 01, 'Refusal numbers': step 1, 3, 4, 5 (A, B, C, D); the plain step takes no selectors: signs 0, mode 0. Assumes nothing.
-use Prim.Native.Nat.{ℕ, _≤_}
-use mathlib.Core.Path.{_≡_}
-use mathlib.Core.Bool.{Bool}
+use Prim.Native.Nat.{ℕ}
 use mathlib.Core.List.{List, [], _∷_}
 use lib.ListN.{length}
-use Rattle.laws.specs.Choice.{if_then_else_}
-use Rattle.answers.specs.Refusals.{Answer, refusal}
-use Rattle.answers.specs.Tests.{Test, over, is, differs, either, both, within, holds}
+use Rattle.answers.specs.Refusals.{Answer}
+use Rattle.answers.specs.Tests.{Test, over, is, differs, either, both, within}
 use Rattle.answers.specs.Calls.{Line, _when_, _at_when_, _then_, first, Call}
-use Rattle.kinds.specs.Refusals.{unknownKind, noKind}
+use Rattle.kinds.specs.Refusals.{unknownKind}
 use Rattle.warp.specs.Buffers.{wordsNeeded}
 use Rattle.step.specs.Step.{stepped}
 
@@ -16,15 +13,9 @@ use Rattle.step.specs.Step.{stepped}
 abbrev pub notArithmetic : (kind : ℕ) → Test
 notArithmetic kind = within kind 6 10
 
-abbrev pub noArithmetic : (kind : ℕ) → Bool
-noArithmetic kind = holds (notArithmetic kind)
-
 -- 4: signs over 3, mode over 1, or kind 1 with signs not 0
 abbrev pub badSelectors : (kind signs mode : ℕ) → Test
 badSelectors kind signs mode = either (either (over signs 3) (over mode 1)) (both (is kind 1) (differs signs 0))
-
-abbrev pub noSelectors : (kind signs mode : ℕ) → Bool
-noSelectors kind signs mode = holds (badSelectors kind signs mode)
 
 -- step and open: 1, 3, 4 before the rest
 abbrev pub selectorRefusals : (kind signs mode : ℕ) → List Line
@@ -34,14 +25,7 @@ selectorRefusals kind signs mode =
     ∷ 4 when badSelectors kind signs mode
     ∷ []
 
-abbrev pub selected : {X : Type 0} → (kind signs mode : ℕ) → Answer X → Answer X
-selected kind signs mode rest =
-    if noKind kind then refusal 1 0
-    else if noArithmetic kind then refusal 3 0
-    else if noSelectors kind signs mode then refusal 4 0
-    else rest
-
--- 5: the first wrong buffer of A, B, C, D
+-- 5: the first wrong buffer of A, B, C, D, by their lengths
 abbrev pub bufferRefusals : (kind a b c d : ℕ) → List Line
 bufferRefusals kind a b c d =
     5 at 0 when differs a (wordsNeeded kind 0)
@@ -50,10 +34,6 @@ bufferRefusals kind a b c d =
     ∷ 5 at 3 when differs d (wordsNeeded kind 2)
     ∷ []
 
-abbrev pub fourBuffers : (kind a b c d : ℕ) → Answer (Unit {0})
-fourBuffers kind a b c d = first (bufferRefusals kind a b c d) tt
-
--- by the lengths of the four buffers
 abbrev pub stepRefusals : (kind signs mode a b c d : ℕ) → List Line
 stepRefusals kind signs mode a b c d = selectorRefusals kind signs mode then bufferRefusals kind a b c d
 
@@ -69,21 +49,3 @@ plainCall kind a b c d = record { refusals = plainRefusals kind (length a) (leng
 
 unfoldable pub stepAnswer : (kind signs mode a b c d : ℕ) → Answer (Unit {0})
 stepAnswer kind signs mode a b c d = first (stepRefusals kind signs mode a b c d) tt
-
-unfoldable pub plainAnswer : (kind a b c d : ℕ) → Answer (Unit {0})
-plainAnswer kind a b c d = first (plainRefusals kind a b c d) tt
-
--- what numbers an accepted step has
-pub record Ready (kind signs mode : ℕ) : Type 0 where
-  pub low : 1 ≤ kind
-  pub high : kind ≤ 5
-  pub signs-le : signs ≤ 3
-  pub mode-le : mode ≤ 1
-  pub plain : kind ≡ 1 → signs ≡ 0
-
--- what lengths A, B, C and D of an accepted step have
-pub record Sized (kind a b c d : ℕ) : Type 0 where
-  pub of-a : a ≡ wordsNeeded kind 0
-  pub of-b : b ≡ wordsNeeded kind 1
-  pub of-c : c ≡ wordsNeeded kind 2
-  pub of-d : d ≡ wordsNeeded kind 2

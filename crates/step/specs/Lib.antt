@@ -1,2 +1,3 @@
 pub mod Step
 pub mod Answers
+pub mod Workers

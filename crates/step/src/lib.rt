@@ -3,10 +3,10 @@ ghost use mathlib.Core.Path.{_≡_};
 ghost use Prim.Native.Nat.{_-_, _^_, _<_, _≤_};
 ghost use lib.ListN.{length};
 ghost use Rattle.kinds.specs.Kinds.{kinds};
-ghost use Rattle.answers.specs.Refusals.{told, after, given};
-ghost use Rattle.answers.specs.Contracts.{Meets};
+ghost use Rattle.answers.specs.Contracts.{Meets, Judges};
 ghost use Rattle.step.specs.Step.{unsignedA, unsignedB, stepped};
-ghost use Rattle.step.specs.Answers.{selected, fourBuffers, stepCall, plainCall, Ready, Sized};
+ghost use Rattle.step.specs.Answers.{selectorRefusals, bufferRefusals, stepCall, plainCall};
+ghost use Rattle.step.specs.Workers.{stepCallIn, Ready, Sized};
 ghost use Rattle.sums.specs.Sums.{offsetOf};
 use answers::Refusal;
 use answers::Verdict;
@@ -19,7 +19,7 @@ use warp::Lengths;
 
 // Refusals 1, 3 and 4, with which a step and the opening of a run begin.
 pub fn judge(kind: Kind, signs: Signs, mode: Mode) -> Verdict
-    ensures { λ r. ⌜ told r ≡ selected (kind .0) (signs .0) (mode .0) (given tt) ⌝ }
+    ensures { λ r. ⌜ Judges (selectorRefusals (kind .0) (signs .0) (mode .0)) r ⌝ }
 {
     let k = kind.0;
     let s = signs.0;
@@ -126,7 +126,7 @@ pub fn work(kind: Kind, signs: Signs, mode: Mode, a: &[u32], b: &[u32], c: &[u32
 // Refusal 5, by the lengths of A, B, C and D.
 fn lengths(kind: Kind, a: usize, b: usize, c: usize, d: usize) -> Verdict
     requires { ⌜ (1 ≤ kind .0) × (kind .0 ≤ kinds) ⌝ }
-    ensures { λ r. ⌜ told r ≡ fourBuffers (kind .0) a b c d ⌝ }
+    ensures { λ r. ⌜ Judges (bufferRefusals (kind .0) a b c d) r ⌝ }
 {
     let n = Lengths::of(kind);
     if a != n.a {
@@ -155,8 +155,7 @@ fn step_in(
     d: &mut [u32],
 ) -> Verdict
     requires { ⌜ Ready (kind .0) (signs .0) (mode .0) ⌝ }
-    ensures { λ r. ⌜ told r ≡ fourBuffers (kind .0) (length (now (a .entry))) (length (now (b .entry))) (length (now (c .entry))) (length (now (d .entry))) ⌝ }
-    ensures { λ r. ⌜ now (d .exit) ≡ after (told r) (stepped (kind .0) (signs .0) (mode .0) (now (a .entry)) (now (b .entry)) (now (c .entry))) (now (d .entry)) ⌝ }
+    ensures { λ r. ⌜ Meets (stepCallIn (kind .0) (signs .0) (mode .0) (now (a .entry)) (now (b .entry)) (now (c .entry)) (now (d .entry))) (now (d .entry)) r (now (d .exit)) ⌝ }
 {
     let verdict = lengths(kind, a.len(), b.len(), c.len(), d.len());
     match verdict {

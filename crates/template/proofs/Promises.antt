@@ -7,13 +7,12 @@ use lib.ListN.{length, getD}
 use Rattle.answers.specs.Refusals.{given}
 use Rattle.kinds.specs.Answers.{placeAnswer}
 use Rattle.kinds.proofs.Table.{layoutAt}
-use Rattle.kinds.proofs.Promises.{Only, only}
 use Rattle.warp.specs.Buffers.{elementIn, index, unpackedOf, Fitting}
 use Rattle.warp.proofs.Placed.{placed}
 use Rattle.warp.proofs.Round as round
 use Rattle.unpack.proofs.Promises.{unpacked-at}
 use Rattle.pack.proofs.Promises.{unpack-pack}
-use Rattle.template.specs.Templates.{templateKind, templateRole, templateWords, templateRecord, readAnswer, writeAnswer}
+use Rattle.template.specs.Templates.{templateKind, templateRole, templateWords, templateRecord}
 use Rattle.template.proofs.Records.{template-legal, template-laid}
 
 -- 'A record is read into lane words and written back without loss': for every record of 256 bytes,
@@ -39,10 +38,3 @@ read-at bytes n fit lane i k c e =
 -- and the byte of the record written is that element of the words.
 pub written-at : (ws : List ℕ) (lane i k c : ℕ) → placeAnswer 3 1 lane i ≡ given (k, c) → getD (templateRecord ws) (8 * k + c) 0 ≡ elementIn 3 1 ws lane i
 written-at ws lane i k c e = ap (λ (z : ℕ). getD (templateRecord ws) z 0) (omega arith) ∙ unpacked-at 3 1 ws lane i (k, c) e
-
--- 'Show that no second answer satisfies it', a call at a time.
-pub one-record-read : (bytes ws : List ℕ) → Only (readAnswer (length bytes) (length ws)) (templateWords bytes) ws
-one-record-read bytes ws = only _ _ _
-
-pub one-record-written : (ws bytes : List ℕ) → Only (writeAnswer (length ws) (length bytes)) (templateRecord ws) bytes
-one-record-written ws bytes = only _ _ _

@@ -2,9 +2,8 @@
 use Prim.Native.Nat.{ℕ}
 use mathlib.Core.List.{List, [], _∷_}
 use lib.ListN.{length}
-use Rattle.answers.specs.Refusals.{Answer}
 use Rattle.answers.specs.Tests.{differs}
-use Rattle.answers.specs.Calls.{Line, _at_when_, first, Call}
+use Rattle.answers.specs.Calls.{_at_when_, Call}
 use Rattle.warp.specs.Buffers.{unpackedOf, packedOf, wordsNeeded}
 
 -- B of kind 3, row-major, row k column c at byte 8k + c: a record's bytes are that matrix.
@@ -22,26 +21,14 @@ abbrev pub templateRecord : (words : List ℕ) → List ℕ
 templateRecord ws = unpackedOf templateKind templateRole ws
 
 -- Only 5 can refuse this: reading counts record, then words; writing counts words, then record.
-abbrev pub readRefusals : (bytes words : ℕ) → List Line
-readRefusals bytes words =
-    5 at 0 when differs bytes 256
-    ∷ 5 at 1 when differs words (wordsNeeded templateKind templateRole)
-    ∷ []
-
-abbrev pub writeRefusals : (words bytes : ℕ) → List Line
-writeRefusals words bytes =
-    5 at 0 when differs words (wordsNeeded templateKind templateRole)
-    ∷ 5 at 1 when differs bytes 256
-    ∷ []
-
 abbrev pub readCall : (bytes words : List ℕ) → Call (List ℕ)
-readCall bytes words = record { refusals = readRefusals (length bytes) (length words); gives = templateWords bytes }
+readCall bytes words = record {
+  refusals = 5 at 0 when differs (length bytes) 256 ∷ 5 at 1 when differs (length words) (wordsNeeded templateKind templateRole) ∷ [];
+  gives = templateWords bytes;
+}
 
 abbrev pub writeCall : (words bytes : List ℕ) → Call (List ℕ)
-writeCall words bytes = record { refusals = writeRefusals (length words) (length bytes); gives = templateRecord words }
-
-abbrev pub readAnswer : (bytes words : ℕ) → Answer (Unit {0})
-readAnswer bytes words = first (readRefusals bytes words) tt
-
-abbrev pub writeAnswer : (words bytes : ℕ) → Answer (Unit {0})
-writeAnswer words bytes = first (writeRefusals words bytes) tt
+writeCall words bytes = record {
+  refusals = 5 at 0 when differs (length words) (wordsNeeded templateKind templateRole) ∷ 5 at 1 when differs (length bytes) 256 ∷ [];
+  gives = templateRecord words;
+}

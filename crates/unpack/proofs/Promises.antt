@@ -11,22 +11,10 @@ use Rattle.kinds.specs.Rule.{rowsOf, columnsOf, holderOf}
 use Rattle.answers.specs.Refusals.{given}
 use Rattle.kinds.specs.Answers.{placeAnswer}
 use Rattle.kinds.proofs.Table.{Legal, layoutAt, sane, rows-are, columns-are}
-use Rattle.kinds.proofs.Judged.{passed, judged-given}
-use Rattle.kinds.proofs.Answers.{place-is, rule-placed}
-use Rattle.kinds.proofs.Promises.{Only, only}
+use Rattle.kinds.proofs.Answers.{rule-placed}
 use Rattle.warp.specs.Buffers.{elementIn, index, unpackedOf, wordsNeeded, entriesNeeded}
 use Rattle.warp.proofs.Placed.{indexIn, legal, placed, laid, index-is, element-is, at-rule, entries-needed}
 use Rattle.warp.proofs.Round as round
-use Rattle.unpack.specs.Answers.{unpackAnswer}
-
--- An accepted call had a legal kind and role and the lengths that they need.
-pub unpack-accepted : (k r ws m : ℕ) → unpackAnswer k r ws m ≡ given tt → Legal k r × (ws ≡ wordsNeeded k r) × (m ≡ entriesNeeded k r)
-unfolding unpackAnswer
-unpack-accepted k r ws m e =
-    let a = judged-given k r _ tt e in
-    let b = passed (not (ws =? wordsNeeded k r)) 5 0 _ (a .1) in
-    let c = passed (not (m =? entriesNeeded k r)) 5 1 _ (b .1) in
-    (a .0, eqb-true ws (wordsNeeded k r) (not-false _ (b .0)), eqb-true m (entriesNeeded k r) (not-false _ (c .0)))
 
 -- 'the entry at the place of (lane, element) is that element's field of the lane's words, for every lane and element'
 pub unpacked-at : (k r : ℕ) (ws : List ℕ) (lane i : ℕ) (x : ℕ × ℕ) → placeAnswer k r lane i ≡ given x → getD (unpackedOf k r ws) (indexIn k r x) 0 ≡ elementIn k r ws lane i
@@ -54,9 +42,5 @@ own-row k r ok ws ws′ row hr same column hc =
     let l = holderOf f (row, column) .0 in
     let i = holderOf f (row, column) .1 in
     let e : placeAnswer k r l i ≡ given (row, column)
-    = sym (place-is k r ok l i) ∙ rule-placed f l i (round.lane-in f o row column hr′ hc′) (round.element-in f o row column hr′ hc′) ∙ ap given (round.place-back f o row column hr′ hc′) in
+    = rule-placed k r ok l i (round.lane-in f o row column hr′ hc′) (round.element-in f o row column hr′ hc′) ∙ ap given (round.place-back f o row column hr′ hc′) in
     unpacked-at k r ws l i (row, column) e ∙ same l i column e ∙ sym (unpacked-at k r ws′ l i (row, column) e)
-
--- 'Show that no second answer satisfies it'.
-pub one-unpack : (k r : ℕ) (ws m : List ℕ) → Only (unpackAnswer k r (length ws) (length m)) (unpackedOf k r ws) m
-one-unpack k r ws m = only _ _ _

@@ -5,13 +5,12 @@ ghost use lib.ListN.{length, getD};
 ghost use Rattle.laws.specs.Fields.{field};
 ghost use Rattle.kinds.specs.Kinds.{lanes};
 ghost use Rattle.kinds.specs.Rule.{Laid};
-ghost use Rattle.answers.specs.Refusals.{told, after};
 ghost use Rattle.answers.specs.Contracts.{Meets};
 ghost use Rattle.laws.specs.Toward.{stores, Brings, Below};
 ghost use Rattle.warp.specs.Buffers.{elementAt, unpacked};
 ghost use Rattle.warp.specs.Stretches.{sizeOf, stretchesOf, OfLane, OfQuad};
-ghost use Rattle.unpack.specs.Workers.{Unpacks};
-ghost use Rattle.unpack.specs.Answers.{unpackBy, unpackCall};
+ghost use Rattle.unpack.specs.Workers.{unpackCallIn, Unpacks};
+ghost use Rattle.unpack.specs.Answers.{unpackCall};
 use answers::Refusal;
 use answers::Verdict;
 use kinds::Kind;
@@ -102,8 +101,7 @@ pub fn fill(words: &[u32], matrix: &mut [u64], f: Layout)
 
 fn unpack_in(f: Layout, words: &[u32], matrix: &mut [u64]) -> Verdict
     requires { ⌜ Laid f ⌝ }
-    ensures { λ r. ⌜ told r ≡ unpackBy f (length (now (words .entry))) (length (now (matrix .entry))) ⌝ }
-    ensures { λ r. ⌜ now (matrix .exit) ≡ after (told r) (unpacked f (now (words .entry))) (now (matrix .entry)) ⌝ }
+    ensures { λ r. ⌜ Meets (unpackCallIn f (now (words .entry)) (now (matrix .entry))) (now (matrix .entry)) r (now (matrix .exit)) ⌝ }
 {
     let each = f.words;
     let rows = warp::rows_in(f);

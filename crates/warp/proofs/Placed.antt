@@ -9,10 +9,8 @@ use Rattle.answers.specs.Refusals.{given}
 use Rattle.kinds.specs.Answers.{placeAnswer}
 use Rattle.kinds.specs.declared.Layout.{Layout}
 use Rattle.kinds.proofs.Table.{Legal, layoutAt, sane, rows-are, columns-are, bits-are, words-are}
-use Rattle.kinds.proofs.Answers.{place-is, placed-inside, rule-placed, place-legal}
+use Rattle.kinds.proofs.Answers.{placed-inside, rule-placed, place-legal}
 use Rattle.warp.specs.Buffers.{elementAt, elementIn, index, wordsNeeded, entriesNeeded}
-use Rattle.warp.specs.Stretches.{lengthsOf}
-use Rattle.warp.specs.declared.Lengths.{Lengths}
 
 module _ (k r : ℕ) (ok : Legal k r) where
   pub words-needed : lanes * layoutAt k r .words ≡ wordsNeeded k r
@@ -31,7 +29,7 @@ module _ (k r lane i : ℕ) (x : ℕ × ℕ) (e : placeAnswer k r lane i ≡ giv
   legal = place-legal k r lane i x e
 
   pub placed : (lane < lanes) × (i < elementsOf (layoutAt k r)) × (x ≡ placeIn (layoutAt k r) lane i)
-  placed = placed-inside (layoutAt k r) lane i x (place-is k r legal lane i ∙ e)
+  placed = placed-inside k r lane i x e
 
 module _ (k r : ℕ) (ok : Legal k r) where
   abbrev f : Layout
@@ -53,16 +51,5 @@ module _ (k r : ℕ) (ok : Legal k r) where
   pub at-rule : (ws m : List ℕ) → At ws m → (lane i : ℕ) → lane < lanes → i < elementsOf f → getD m (index (columnsOf f) (placeIn f lane i)) 0 ≡ elementAt (f .bits) (f .words) ws lane i
   at-rule ws m at lane i hl hi =
       ap (λ (z : ℕ). getD m z 0) (index-is (placeIn f lane i))
-      ∙ at lane i (placeIn f lane i) (sym (place-is k r ok lane i) ∙ rule-placed f lane i hl hi)
+      ∙ at lane i (placeIn f lane i) (rule-placed k r ok lane i hl hi)
       ∙ sym (element-is ws lane i)
-
--- the lengths looked up are those that are needed
-module _ (k : ℕ) (n : Lengths) (e : n ≡ lengthsOf k) where
-  pub length-a : n .a ≡ wordsNeeded k 0
-  length-a = ap (λ (n : Lengths). n .a) e
-
-  pub length-b : n .b ≡ wordsNeeded k 1
-  length-b = ap (λ (n : Lengths). n .b) e
-
-  pub length-c : n .c ≡ wordsNeeded k 2
-  length-c = ap (λ (n : Lengths). n .c) e

@@ -6,8 +6,7 @@ use Rattle.laws.specs.Toward.{Below, At}
 use Rattle.kinds.specs.Kinds.{wordBits}
 use Rattle.kinds.specs.Rule.{columnsOf, placeIn}
 use Rattle.kinds.specs.declared.Layout.{Layout}
-use Rattle.warp.specs.Buffers.{index, wordsNeeded}
-use Rattle.warp.specs.declared.Lengths.{Lengths}
+use Rattle.warp.specs.Buffers.{index}
 
 -- the elements of a stretch, the stretches side by side, and those of a lane
 abbrev pub sizeOf : Layout → ℕ
@@ -40,7 +39,3 @@ WordsOfLane f n r lane = Below n (λ k. At (lane * f .words + (r * n + k)))
 
 abbrev pub WordsOfQuad : Layout → (n stretch quad : ℕ) → ℕ → Type 0
 WordsOfQuad f n r quad = Below 4 (λ t. WordsOfLane f n r (quad * 4 + t))
-
--- the lengths of a kind's warp buffers
-abbrev pub lengthsOf : (kind : ℕ) → Lengths
-lengthsOf k = record { a = wordsNeeded k 0; b = wordsNeeded k 1; c = wordsNeeded k 2 }

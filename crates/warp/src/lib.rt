@@ -4,8 +4,8 @@ ghost use Prim.Native.Nat.{_+_, _*_, _<_, _≤_};
 ghost use Rattle.laws.specs.Fields.{field};
 ghost use Rattle.kinds.specs.Kinds.{kinds, lanes};
 ghost use Rattle.kinds.specs.Rule.{Laid, rowsOf, columnsOf};
-ghost use Rattle.warp.specs.Buffers.{stepOf};
-ghost use Rattle.warp.specs.Stretches.{sizeOf, abreastIn, stretchesOf, placeAt, lengthsOf};
+ghost use Rattle.warp.specs.Buffers.{stepOf, wordsNeeded};
+ghost use Rattle.warp.specs.Stretches.{sizeOf, abreastIn, stretchesOf, placeAt};
 use kinds::Entry;
 use kinds::Kind;
 use kinds::Lane;
@@ -39,7 +39,7 @@ pub struct Lengths {
 impl Lengths {
     pub fn of(kind: Kind) -> Lengths
         requires { ⌜ (1 ≤ kind .0) × (kind .0 ≤ kinds) ⌝ }
-        ensures { λ r. ⌜ r ≡ lengthsOf (kind .0) ⌝ }
+        ensures { λ r. ⌜ (r .a ≡ wordsNeeded (kind .0) 0) × (r .b ≡ wordsNeeded (kind .0) 1) × (r .c ≡ wordsNeeded (kind .0) 2) ⌝ }
     {
         let e = Entry::of(kind);
         Lengths {

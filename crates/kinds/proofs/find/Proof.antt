@@ -2,9 +2,12 @@
 use borrow.Author.Needs.{needs}
 use mathlib.Core.Path.{sym, ap, _∙_}
 use mathlib.Core.Bool.{Bool}
+use Rattle.answers.specs.Calls.{answer}
 use Rattle.answers.proofs.Shows.{replies}
+use Rattle.answers.proofs.Demand1.{reply-is}
 use Rattle.kinds.specs.Rule.{turn}
-use Rattle.kinds.specs.Answers.{findAnswer, findBy}
+use Rattle.kinds.specs.Answers.{findAnswer}
+use Rattle.kinds.specs.Workers.{findCallIn}
 use Rattle.kinds.proofs.Answers.{known-sane, known-found, find-refused}
 use Rattle.kinds.proofs.find.Statement.{statement}
 use Rattle.kinds.proofs.find.Tie as tie
@@ -30,8 +33,8 @@ returns c =
     let s = c .before .before .before .before .before in
     let f = c .before .before .before .f .given .0 .0 in
     replies
-    (c .find-in .ensures
-    ∙ ap (λ (t : Bool). findBy f (turn t (s .before .args .row .0, s .before .args .column .0))) (sym (c .before .if1 .taken))
+    (reply-is (c .find-in .ensures)
+    ∙ ap (λ (t : Bool). answer (findCallIn f (turn t (s .before .args .row .0, s .before .args .column .0)))) (sym (c .before .if1 .taken))
     ∙ known-found _ _ _ (s .layout-of .ensures) _ (c .before .before .before .f .given .1) _ _)
 
 returns-2 : tie.Need-returns-2
@@ -40,8 +43,8 @@ returns-2 c =
     let s = c .before .before .before .before .before in
     let f = c .before .before .before .f .given .0 .0 in
     replies
-    (c .find-in2 .ensures
-    ∙ ap (λ (t : Bool). findBy f (turn t (s .before .args .row .0, s .before .args .column .0))) (sym (c .before .if1 .left))
+    (reply-is (c .find-in2 .ensures)
+    ∙ ap (λ (t : Bool). answer (findCallIn f (turn t (s .before .args .row .0, s .before .args .column .0)))) (sym (c .before .if1 .left))
     ∙ known-found _ _ _ (s .layout-of .ensures) _ (c .before .before .before .f .given .1) _ _)
 
 returns-3 : tie.Need-returns-3

@@ -2,6 +2,7 @@
 use borrow.Author.Needs.{needs}
 use mathlib.Core.Path.{_∙_}
 use Rattle.answers.proofs.Shows.{replies}
+use Rattle.answers.proofs.Demand1.{reply-is}
 use Rattle.kinds.specs.Answers.{placeAnswer}
 use Rattle.kinds.proofs.Answers.{known-sane, known-placed, place-refused}
 use Rattle.kinds.proofs.place.Statement.{statement}
@@ -21,7 +22,9 @@ enum-known-x c = search needs
 
 returns : tie.Need-returns
 unfolding placeAnswer
-returns c = replies (c .place-in .ensures ∙ known-placed _ _ _ (c .before .before .before .before .layout-of .ensures) _ (c .before .before .f .given .1) _ _)
+returns c =
+    let s = c .before .before .before .before in
+    replies (reply-is (c .place-in .ensures) ∙ known-placed _ _ _ (s .layout-of .ensures) _ (c .before .before .f .given .1) (s .before .args .lane .0) (s .before .args .element .0))
 
 returns-2 : tie.Need-returns-2
 unfolding placeAnswer

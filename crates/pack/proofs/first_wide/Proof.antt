@@ -3,12 +3,13 @@ use borrow.Author.Needs.{needs}
 use borrow.Author.Count.{below-more}
 use mathlib.Core.Path.{_≡_, ap, _∙_}
 use Prim.Native.Nat.{ℕ, _+_, _-_, _/_, _^_, _<_, _≤_}
-use native.Mathlib.Nat.{not-suc-le-zero}
+use native.Mathlib.Nat.{not-suc-le-zero, not-le-of-lt}
 use native.Mathlib.Omega.{arith}
 use denote.Ref.{now}
 use lib.ListN.{length, getD}
 use lib.Pow.{pow-pos, ones-split, ones-lt, high}
-use Rattle.pack.proofs.Answers.{first-all, first-at}
+use Rattle.answers.proofs.Words.{first-here, first-nowhere}
+use Rattle.pack.specs.Answers.{tooWide}
 use Rattle.pack.proofs.first_wide.Statement.{statement}
 use Rattle.pack.proofs.first_wide.Tie as tie
 
@@ -43,7 +44,8 @@ shared-slice-read-if1 c = search needs
 returns : tie.Need-returns Inv-loop μ-loop
 returns c =
     let s = c .before .before .before .before in
-    first-at (s .args .bits) (now (s .args .matrix)) (c .before .before .before .loop .i) (c .before .before .loop-test .taken) (c .before .before .before .loop .inv .1) (omega (arith, ones (s .args .bits) (s .pre .1), c .if1 .taken))
+    first-here (length (now (s .args .matrix))) (tooWide (s .args .bits) (now (s .args .matrix))) (c .before .before .before .loop .i) (c .before .before .loop-test .taken)
+    (λ j l. not-le-of-lt (c .before .before .before .loop .inv .1 j l)) (omega (arith, ones (s .args .bits) (s .pre .1), c .if1 .taken))
 
 add-i : tie.Need-add-i Inv-loop μ-loop
 add-i c = omega arith
@@ -60,7 +62,7 @@ returns-2 : tie.Need-returns-2 Inv-loop μ-loop
 returns-2 c =
     let s = c .before .before in
     let e : c .before .loop .i ≡ length (now (s .args .matrix)) = omega arith in
-    e ∙ first-all (s .args .bits) (now (s .args .matrix)) (λ k l. c .before .loop .inv .1 k (omega arith))
+    first-nowhere (length (now (s .args .matrix))) (tooWide (s .args .bits) (now (s .args .matrix))) (c .before .loop .i) e (λ j l. not-le-of-lt (c .before .loop .inv .1 j l))
 
 pub first-wide-spec : {M : Type 1} → statement M
 first-wide-spec =

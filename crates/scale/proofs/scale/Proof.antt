@@ -14,9 +14,7 @@ fill-requires : tie.Need-fill-requires
 fill-requires c κs =
     let p = c .before in
     let passed = admitted (p .before .before .judge .ensures) (p .enum-told .given .1) in
-    let ids = passed .1 .1 in
-    let lengths = ids .1 .1 in
-    (record { byte-id = ids .0; thread-id = ids .1 .0; words = lengths .0 }, lengths .1 .0)
+    (record { byte-id = search passed; thread-id = search passed; words = search passed }, search passed)
 
 enum-told-2 : tie.Need-enum-told-2
 enum-told-2 c = search needs

@@ -5,7 +5,6 @@ use denote.Ref.{now}
 use lib.ListN.{length}
 use Rattle.answers.proofs.Shows.{meets}
 use Rattle.answers.proofs.Demand1.{verdict-is}
-use Rattle.step.specs.Answers.{stepAnswer, plainAnswer}
 use Rattle.step.proofs.Accepted.{plain-is}
 use Rattle.step.proofs.plain_step.Statement.{statement}
 use Rattle.step.proofs.plain_step.Tie as tie
@@ -17,7 +16,6 @@ same-length : tie.Need-same-length
 same-length c = search needs
 
 returns : tie.Need-returns
-unfolding stepAnswer plainAnswer
 returns c =
     let u = c .before .before in
     let x = u .before .before .before .before .before .before .args in

@@ -1,10 +1,6 @@
 -- The lengths were accepted or refused: D is worked out, or stays as it was. Assumes nothing.
 use borrow.Author.Needs.{needs}
-use mathlib.Core.Path.{sym, ap, _∙_}
-use denote.Ref.{now}
-use Rattle.answers.specs.Refusals.{told, after}
-use Rattle.answers.specs.declared.Verdict.{Verdict}
-use Rattle.step.specs.Step.{stepped}
+use Rattle.answers.proofs.Shows.{admitted, worked, kept}
 use Rattle.step.proofs.Accepted.{sized}
 use Rattle.step.proofs.step_in.Statement.{statement}
 use Rattle.step.proofs.step_in.Tie as tie
@@ -18,7 +14,7 @@ enum-told c = search needs
 work-requires : tie.Need-work-requires
 work-requires c κs =
     let s = c .before .before .before .before .before .before .before .before in
-    (s .pre, sized _ _ _ _ _ (sym (c .before .before .before .lengths .ensures) ∙ ap told (c .before .enum-told .given .1)))
+    (s .pre, sized _ _ _ _ _ (admitted (c .before .before .before .lengths .ensures) (c .before .enum-told .given .1)))
 
 enum-told-2 : tie.Need-enum-told-2
 enum-told-2 c = search needs
@@ -27,19 +23,10 @@ same-length : tie.Need-same-length
 same-length c = search needs
 
 returns : tie.Need-returns
-returns c =
-    let s = c .before .before .before .before .before .before .before .before .before .before .before in (
-      c .before .before .before .before .before .before .lengths .ensures,
-      c .before .before .work .ensures
-          ∙ sym (ap (λ (v : Verdict). after (told v) (stepped (s .args .kind .0) (s .args .signs .0) (s .args .mode .0) (now (s .args .a)) (now (s .args .b)) (now (s .args .c))) (now (s .args .d))) (c .before .before .before .before .enum-told .given .1)),
-    )
+returns c = worked (c .before .before .before .before .before .before .lengths .ensures) (c .before .before .before .before .enum-told .given .1) (c .before .before .work .ensures)
 
 returns-2 : tie.Need-returns-2
-returns-2 c =
-    let s = c .before .before .before .before .before .before .before in (
-      c .before .before .lengths .ensures,
-      sym (ap (λ (v : Verdict). after (told v) (stepped (s .args .kind .0) (s .args .signs .0) (s .args .mode .0) (now (s .args .a)) (now (s .args .b)) (now (s .args .c))) (now (s .args .d))) (c .enum-told2 .given .1)),
-    )
+returns-2 c = kept (c .before .before .lengths .ensures) (c .enum-told2 .given .1)
 
 pub step-in-spec : {M : Type 1} → statement M
 step-in-spec =

@@ -4,11 +4,14 @@ use mathlib.Core.Path.{refl, ap, _∙_}
 use denote.Ref.{now}
 use lib.ListN.{length}
 use Rattle.answers.specs.Refusals.{told, after}
+use Rattle.answers.specs.Calls.{judgement}
 use Rattle.answers.proofs.Shows.{meets}
+use Rattle.answers.proofs.Demand1.{verdict-is}
 use Rattle.kinds.specs.declared.Layout.{Layout}
 use Rattle.kinds.proofs.Answers.{known-legal, known-sane, handed-on}
-use Rattle.warp.specs.Buffers.{unpacked}
-use Rattle.unpack.specs.Answers.{unpackAnswer, unpackBy}
+use Rattle.warp.specs.Buffers.{unpacked, wordsNeeded, entriesNeeded}
+use Rattle.unpack.specs.Answers.{lengthRefusals}
+use Rattle.unpack.specs.Workers.{unpackCallIn}
 use Rattle.unpack.proofs.Answers.{unpack-is}
 use Rattle.unpack.proofs.unpack.Statement.{statement}
 use Rattle.unpack.proofs.unpack.Tie as tie
@@ -29,18 +32,24 @@ same-length : tie.Need-same-length
 same-length c = search needs
 
 returns : tie.Need-returns
-unfolding unpackAnswer
 returns c =
     let u = c .before .before in
     let s = u .before .before .before .before .before .before .before .before in
     let g = known-legal _ _ _ (u .before .before .before .before .before .layout-of .ensures) _ (u .before .before .before .f .given .1) in
     meets
-    (u .unpack-in .ensures .0 ∙ ap (λ (f : Layout). unpackBy f (length (now (s .args .words))) (length (now (s .args .matrix)))) (g .1) ∙ unpack-is _ _ (g .0) _ _)
-    (u .unpack-in .ensures .1 ∙ ap (λ (f : Layout). after (told (u .unpack-in .result)) (unpacked f (now (s .args .words))) (now (s .args .matrix))) (g .1))
+    (verdict-is (u .unpack-in .ensures)
+    ∙ ap (λ (f : Layout). judgement (unpackCallIn f (now (s .args .words)) (now (s .args .matrix)))) (g .1)
+    ∙ unpack-is (s .args .kind .0) (s .args .role .0) (g .0) (now (s .args .words)) (now (s .args .matrix)))
+    (u .unpack-in .ensures .left-is ∙ ap (λ (f : Layout). after (told (u .unpack-in .result)) (unpacked f (now (s .args .words))) (now (s .args .matrix))) (g .1))
 
 returns-2 : tie.Need-returns-2
-unfolding unpackAnswer
-returns-2 c = meets (handed-on _ _ _ (c .before .before .before .layout-of .ensures) _ (c .before .x .given .1) _) refl
+returns-2 c =
+    let l = c .before .before .before in
+    let s = l .before .before .before in
+    meets
+    (handed-on _ _ _ (l .layout-of .ensures) _ (c .before .x .given .1)
+    (lengthRefusals (length (now (s .args .words))) (wordsNeeded (s .args .kind .0) (s .args .role .0)) (length (now (s .args .matrix))) (entriesNeeded (s .args .kind .0) (s .args .role .0))) tt)
+    refl
 
 pub unpack-spec : {M : Type 1} → statement M
 unpack-spec =

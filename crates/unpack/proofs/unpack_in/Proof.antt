@@ -1,12 +1,11 @@
--- Each return rewrites the chain with the tests that led there; a refusal leaves the matrix as it was. Assumes nothing.
+-- The tests that led to a return decide it; a refusal leaves the matrix as it was. Assumes nothing.
 use borrow.Author.Needs.{needs}
-use borrow.Author.Tests.{eq-eqb, ne-eqb}
 use mathlib.Core.Path.{_≡_, refl, sym, ap₂, _∙_}
 use Prim.Native.Nat.{_*_}
 use native.Mathlib.Nat.{mul-le-mul}
 use native.Mathlib.Omega.{arith}
 use Rattle.kinds.specs.Rule.{rowsOf, columnsOf}
-use Rattle.unpack.specs.Answers.{unpackBy}
+use Rattle.answers.proofs.Shows.{stops, skips, kept}
 use Rattle.unpack.proofs.unpack_in.Statement.{statement}
 use Rattle.unpack.proofs.unpack_in.Tie as tie
 
@@ -23,15 +22,13 @@ mul-if1 : tie.Need-mul-if1
 mul-if1 c = search needs
 
 returns : tie.Need-returns
-unfolding unpackBy
-returns c = (simp (ne-eqb _ _ (c .if1 .taken)), refl)
+returns c = search needs
 
 mul-if2 : tie.Need-mul-if2
 mul-if2 c = omega (arith, mul-le-mul (c .before .before .rows-in .ensures .1) (c .before .columns-in .ensures .1))
 
 returns-2 : tie.Need-returns-2
-unfolding unpackBy
-returns-2 c = (simp (eq-eqb _ _ (c .before .if1 .left), ne-eqb _ _ (λ q. c .if2 .taken (q ∙ sym (size (c .before .before))))), refl)
+returns-2 c = kept (skips (λ n. n (c .before .if1 .left)) (stops (λ q. c .if2 .taken (q ∙ sym (size (c .before .before)))) refl refl)) refl
 
 fill-requires : tie.Need-fill-requires
 fill-requires c κs =
@@ -42,10 +39,9 @@ same-length : tie.Need-same-length
 same-length c = search needs
 
 returns-3 : tie.Need-returns-3
-unfolding unpackBy
 returns-3 c =
     let a = c .before .before .before .before in
-    (simp (eq-eqb _ _ (a .before .if1 .left), eq-eqb _ _ (a .if2 .left ∙ size (a .before .before))), c .before .before .fill .ensures)
+    record { verdict-right = (λ n. n (a .before .if1 .left), (λ n. n (a .if2 .left ∙ size (a .before .before)), tt)); left-is = c .before .before .fill .ensures }
 
 pub unpack-in-spec : {M : Type 1} → statement M
 unpack-in-spec =

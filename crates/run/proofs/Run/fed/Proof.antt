@@ -6,7 +6,6 @@ use native.Mathlib.Omega.{arith}
 use lib.ListN.{length}
 use lib.Seq.{length-take-le}
 use Rattle.warp.specs.Buffers.{wordsNeeded}
-use Rattle.warp.proofs.Placed.{length-c}
 use Rattle.run.proofs.Laws.{used-le, fed-is}
 use Rattle.run.proofs.Run.fed.Statement.{statement}
 use Rattle.run.proofs.Run.fed.Tie as tie
@@ -21,7 +20,7 @@ module _ (c : tie.After-of) where
   S = c .before .before .before .before .before .before .before .before
 
   is : c .of .result .c ≡ wordsNeeded (S .args .self .kind .0) 2
-  is = length-c (S .args .self .kind .0) _ (c .of .ensures)
+  is = c .of .ensures .2
 
   inside : (c .of .result .c ≤ 128) × (length (S .args .self .sums) ≡ 128)
   inside = (omega (arith, used-le (S .args .self .kind .0) (S .pre .0 .0 .high), is), long S)

@@ -1,9 +1,11 @@
 -- A step's own judgement decides on the selectors, then the number of blocks. Assumes nothing.
 use borrow.Author.Needs.{needs}
-use borrow.Author.Tests.{lt-ltb, le-ltb}
-use mathlib.Core.Path.{sym, ap, _∙_}
-use Rattle.answers.specs.Refusals.{told, numberOf, detailOf}
-use Rattle.run.proofs.Laws.{chosen-is, chosen-refused}
+use mathlib.Core.Path.{refl}
+use native.Mathlib.Omega.{arith}
+use Rattle.answers.proofs.Shows.{admitted, not-passed, shown, hidden, stops, skips, accepts}
+use Rattle.step.proofs.Accepted.{ready, ready-passes}
+use Rattle.run.specs.Answers.{badRun}
+use Rattle.run.proofs.Laws.{sound, sound-back}
 use Rattle.run.proofs.Run.judge.Statement.{statement}
 use Rattle.run.proofs.Run.judge.Tie as tie
 
@@ -18,20 +20,19 @@ enum-told-2 c = search needs
 
 returns : tie.Need-returns
 returns c =
-    let s = c .before .before .before .before .before .before in
-    let x = c .enum-told2 .given .0 .0 in
-    simp (chosen-refused (s .args .self) (numberOf x) (detailOf x) (sym (ap told (c .enum-told2 .given .1)) ∙ c .before .before .judge .ensures))
+    let self = c .before .before .before .before .before .before .args .self in
+    stops (shown (badRun self) (λ d. not-passed (c .before .before .judge .ensures) (c .enum-told2 .given .1) (ready-passes _ _ _ (sound self d .0)))) refl refl
 
 returns-2 : tie.Need-returns-2
 returns-2 c =
-    let s = c .before .before .before .before .before .before .before .before in
-    rw (chosen-is (s .args .self) (sym (c .before .before .before .before .judge .ensures) ∙ ap told (c .before .before .enum-told .given .1)), lt-ltb 4096 (s .args .self .blocks) (c .if1 .taken))
+    let self = c .before .before .before .before .before .before .before .before .args .self in
+    stops (shown (badRun self) (λ d. omega (arith, sound self d .1, c .if1 .taken))) refl refl
 
 returns-3 : tie.Need-returns-3
 returns-3 c =
-    let s = c .before .before .before .before .before .before .before .before in
-    let e = ap told (c .before .before .enum-told .given .1) in
-    rw (chosen-is (s .args .self) (sym (c .before .before .before .before .judge .ensures) ∙ e), le-ltb 4096 (s .args .self .blocks) (c .if1 .left)) e
+    let self = c .before .before .before .before .before .before .before .before .args .self in
+    let e = c .before .before .enum-told .given .1 in
+    skips (hidden (badRun self) (sound-back self (ready _ _ _ (admitted (c .before .before .before .before .judge .ensures) e)) (c .if1 .left))) (accepts e)
 
 pub judge-spec : {M : Type 1} → statement M
 judge-spec = tie.close (tie.spec judge-requires enum-told enum-told-2 returns returns-2 returns-3)

@@ -1,19 +1,15 @@
 -- Refusal 10 was given, and stands, or not, and the number of blocks and the lengths decide. Assumes nothing.
 use borrow.Author.Needs.{needs}
-use borrow.Author.Tests.{le-leb, lt-leb, eq-eqb, ne-eqb}
-use mathlib.Core.Path.{_≡_, sym, ap, _∙_}
-use mathlib.Core.Bool.{false}
-use Rattle.answers.specs.Refusals.{told}
+use mathlib.Core.List.{List, [], _∷_}
+use native.Mathlib.Omega.{arith}
+use Rattle.answers.specs.Tests.{differs}
+use Rattle.answers.specs.Calls.{Line, _when_, _at_when_}
+use Rattle.answers.proofs.Shows.{admitted, stands, continues, skips, accepts}
 use Rattle.warp.specs.Buffers.{wordsNeeded}
-use Rattle.warp.proofs.Placed.{length-a, length-b}
-use Rattle.run.specs.Answers.{noRun, feedAnswer}
-use Rattle.run.proofs.Laws.{sound, judged-sound, judged-refused}
+use Rattle.run.specs.Answers.{fullRun}
+use Rattle.run.proofs.Laws.{sound}
 use Rattle.run.proofs.Run.judge_feed.Statement.{statement}
 use Rattle.run.proofs.Run.judge_feed.Tie as tie
-
--- the run that the judge accepted
-good : (c : tie.After-enum-told) → noRun (c .before .before .before .before .args .self) ≡ false
-good c = judged-sound (c .before .before .before .before .args .self) (c .before .before .judge .ensures) (c .enum-told .given .1)
 
 judge-requires : tie.Need-judge-requires
 judge-requires c κs = search needs
@@ -25,35 +21,39 @@ enum-told-2 : tie.Need-enum-told-2
 enum-told-2 c = search needs
 
 returns : tie.Need-returns
-unfolding feedAnswer
-returns c = judged-refused (c .before .before .before .before .args .self) _ (c .before .before .judge .ensures) (c .enum-told2 .given .1)
+returns c =
+    let s = c .before .before .before .before in
+    let k = s .args .self .kind .0 in
+    stands (9 when fullRun (s .args .self) ∷ 5 at 0 when differs (s .args .a) (wordsNeeded k 0) ∷ 5 at 1 when differs (s .args .b) (wordsNeeded k 1) ∷ [])
+    (c .before .before .judge .ensures) (c .enum-told2 .given .1)
 
 returns-2 : tie.Need-returns-2
-unfolding feedAnswer
-returns-2 c = simp (good (c .before .before), le-leb _ _ (c .if1 .taken))
+returns-2 c = continues (c .before .before .before .before .judge .ensures) (c .before .before .enum-told .given .1) (search needs)
 
 of-requires : tie.Need-of-requires
-of-requires c κs = let r = sound (c .before .before .before .before .before .before .args .self) (good (c .before .before)) in search needs
-
--- the lengths that the block has to have
-module _ (k : tie.After-of) where
-  of-a : k .of .result .a ≡ wordsNeeded (k .before .before .before .before .before .before .before .args .self .kind .0) 0
-  of-a = length-a (k .before .before .before .before .before .before .before .args .self .kind .0) _ (k .of .ensures)
-
-  of-b : k .of .result .b ≡ wordsNeeded (k .before .before .before .before .before .before .before .args .self .kind .0) 1
-  of-b = length-b (k .before .before .before .before .before .before .before .args .self .kind .0) _ (k .of .ensures)
+of-requires c κs =
+    let j = c .before .before in
+    let r = sound (c .before .before .before .before .before .before .args .self) (admitted (j .before .before .judge .ensures) (j .enum-told .given .1) .0) in
+    search needs
 
 returns-3 : tie.Need-returns-3
-unfolding feedAnswer
-returns-3 c = simp (good (c .before .before .before .before .before), lt-leb _ _ (c .before .before .before .if1 .left), ne-eqb _ _ (λ q. c .if2 .taken (q ∙ sym (of-a (c .before .before)))))
+returns-3 c =
+    let j = c .before .before .before .before .before in
+    continues (j .before .before .judge .ensures) (j .enum-told .given .1) (search needs)
 
 returns-4 : tie.Need-returns-4
-unfolding feedAnswer
-returns-4 c = simp (good (c .before .before .before .before .before .before .before), lt-leb _ _ (c .before .before .before .before .before .if1 .left), eq-eqb _ _ (c .before .before .if2 .left ∙ of-a (c .before .before .before .before)), ne-eqb _ _ (λ q. c .if3 .taken (q ∙ sym (of-b (c .before .before .before .before)))))
+returns-4 c =
+    let j = c .before .before .before .before .before .before .before in
+    continues (j .before .before .judge .ensures) (j .enum-told .given .1) (search needs)
 
 returns-5 : tie.Need-returns-5
-unfolding feedAnswer
-returns-5 c = simp (good (c .before .before .before .before .before .before .before), lt-leb _ _ (c .before .before .before .before .before .if1 .left), eq-eqb _ _ (c .before .before .if2 .left ∙ of-a (c .before .before .before .before)), eq-eqb _ _ (c .if3 .left ∙ of-b (c .before .before .before .before))) (ap told (c .before .before .before .before .before .before .before .enum-told .given .1))
+returns-5 c =
+    let j = c .before .before .before .before .before .before .before in
+    let e = j .enum-told .given .1 in
+    let of = c .before .before .before .before .of .ensures in
+    continues (j .before .before .judge .ensures) e
+    (skips (λ l. omega (arith, l, c .before .before .before .before .before .if1 .left))
+    (skips (λ n. omega (arith, n, c .before .before .if2 .left, of)) (skips (λ n. omega (arith, n, c .if3 .left, of)) (accepts e))))
 
 pub judge-feed-spec : {M : Type 1} → statement M
 judge-feed-spec =

@@ -1,12 +1,9 @@
 -- C was accepted, and the run has its words, or refused, and the run is 0 throughout. Assumes nothing.
 use borrow.Author.Needs.{needs}
-use mathlib.Core.Path.{sym, ap, _∙_}
 use Rattle.laws.specs.Lists.{tab}
-use Rattle.answers.specs.Refusals.{told}
-use Rattle.answers.proofs.Shows.{meets}
-use Rattle.run.specs.Answers.{openAnswer}
+use Rattle.answers.proofs.Shows.{admitted, worked, kept}
 use Rattle.run.specs.Runs.{zeros, zeroRun}
-use Rattle.run.proofs.Laws.{open-accepted, written, kept}
+use Rattle.run.proofs.Laws.{open-passes}
 use Rattle.run.proofs.Run.open.Statement.{statement}
 use Rattle.run.proofs.Run.open.Tie as tie
 
@@ -17,18 +14,17 @@ enum-told : tie.Need-enum-told
 enum-told c = search needs
 
 opened-requires : tie.Need-opened-requires
-opened-requires c κs = open-accepted _ _ _ _ (sym (c .before .before .judge-open .ensures) ∙ ap told (c .enum-told .given .1))
+opened-requires c κs = open-passes _ _ _ _ (admitted (c .before .before .judge-open .ensures) (c .enum-told .given .1))
 
 enum-told-2 : tie.Need-enum-told-2
 enum-told-2 c = search needs
 
 returns : tie.Need-returns
-unfolding openAnswer
-returns c = meets (c .before .before .before .judge-open .ensures) (c .opened .ensures ∙ written _ zeroRun (c .before .enum-told .given .1))
+returns c = worked (c .before .before .before .judge-open .ensures) (c .before .enum-told .given .1) (c .opened .ensures)
 
 returns-2 : tie.Need-returns-2
-unfolding openAnswer zeroRun zeros tab
-returns-2 c = meets (c .before .before .judge-open .ensures) (kept _ zeroRun (c .enum-told2 .given .1))
+unfolding zeroRun zeros tab
+returns-2 c = kept (c .before .before .judge-open .ensures) (c .enum-told2 .given .1)
 
 pub open-spec : {M : Type 1} → statement M
 open-spec =

@@ -7,13 +7,11 @@ use native.Mathlib.Omega.{arith}
 use denote.Ref.{now}
 use lib.ListN.{length, take}
 use lib.Seq.{length-take-le}
-use Rattle.answers.specs.Refusals.{told}
 use Rattle.warp.specs.Buffers.{wordsNeeded}
-use Rattle.step.specs.Answers.{Ready}
-use Rattle.answers.proofs.Shows.{meets}
-use Rattle.run.specs.Answers.{readAnswer}
+use Rattle.step.specs.Workers.{Ready}
+use Rattle.answers.proofs.Shows.{admitted, worked, kept}
 use Rattle.run.specs.Runs.{usedOf}
-use Rattle.run.proofs.Laws.{used-le, read-accepted, written, kept}
+use Rattle.run.proofs.Laws.{used-le, read-passes}
 use Rattle.run.proofs.Run.read.Statement.{statement}
 use Rattle.run.proofs.Run.read.Tie as tie
 
@@ -29,8 +27,8 @@ module _ (c : tie.After-sums) where
   abbrev n : ℕ
   n = length (now (S .args .d))
 
-  accepted : Ready (S .args .self .kind .0) (S .args .self .signs .0) (S .args .self .mode .0) × (S .args .self .blocks ≤ 4096) × (n ≡ wordsNeeded (S .args .self .kind .0) 2)
-  accepted = read-accepted (S .args .self) n (sym (c .before .before .before .judge-read .ensures) ∙ ap told (c .before .enum-told .given .1))
+  accepted : Ready (S .args .self .kind .0) (S .args .self .signs .0) (S .args .self .mode .0) × (n ≡ wordsNeeded (S .args .self .kind .0) 2)
+  accepted = read-passes (S .args .self) n (admitted (c .before .before .before .judge-read .ensures) (c .before .enum-told .given .1))
 
   inside : n ≤ length (S .args .self .sums)
   inside = omega (arith, long S, accepted, used-le (S .args .self .kind .0) (accepted .0 .high))
@@ -48,10 +46,7 @@ enum-told-2 : tie.Need-enum-told-2
 enum-told-2 c = search needs
 
 returns : tie.Need-returns
-unfolding readAnswer
-returns c =
-    let s = c .before .before .before .before in
-    meets (c .before .before .judge-read .ensures) (kept (usedOf (s .args .self), s .args .self) (now (s .args .d), s .args .self) (c .enum-told2 .given .1))
+returns c = kept (c .before .before .judge-read .ensures) (c .enum-told2 .given .1)
 
 array-share-prefix-sums : tie.Need-array-share-prefix-sums
 array-share-prefix-sums c = inside c
@@ -66,13 +61,12 @@ same-length : tie.Need-same-length
 same-length c = search needs
 
 returns-2 : tie.Need-returns-2
-unfolding readAnswer usedOf
+unfolding usedOf
 returns-2 c =
     let u = c .before .before .before .before .before in
-    let e = ap (λ (m : ℕ). take m (S u .args .self .sums)) (accepted u .2) in
+    let e = ap (λ (m : ℕ). take m (S u .args .self .sums)) (accepted u .1) in
     let self = S u .args .self in
-    meets (u .before .before .before .judge-read .ensures)
-    (ap (λ (d : List ℕ). (d, self)) (c .before .before .copy .ensures ∙ e) ∙ written (usedOf self, self) (now (S u .args .d), self) (u .before .enum-told .given .1))
+    worked (u .before .before .before .judge-read .ensures) (u .before .enum-told .given .1) (ap (λ (d : List ℕ). (d, self)) (c .before .before .copy .ensures ∙ e))
 
 pub read-spec : {M : Type 1} → statement M
 read-spec =

@@ -3,7 +3,6 @@ use borrow.Author.Needs.{needs}
 use mathlib.Core.Path.{ap}
 use Prim.Native.Nat.{_*_}
 use Rattle.kinds.specs.declared.Entry.{Entry}
-use Rattle.warp.specs.declared.Lengths.{Lengths}
 use Rattle.warp.proofs.Lengths.of.Statement.{statement}
 use Rattle.warp.proofs.Lengths.of.Tie as tie
 
@@ -29,10 +28,9 @@ mul-t8 : tie.Need-mul-t8
 mul-t8 c = search needs
 
 returns : tie.Need-returns
-returns c = ap made (c .before .before .before .of .ensures)
-  where
-    made : Entry → Lengths
-    made e = record { a = 32 * e .5; b = 32 * e .6; c = 32 * e .7 }
+returns c =
+    let is = c .before .before .before .of .ensures in
+    (ap (λ (e : Entry). 32 * e .5) is, ap (λ (e : Entry). 32 * e .6) is, ap (λ (e : Entry). 32 * e .7) is)
 
 pub of-spec : {M : Type 1} → statement M
 of-spec = tie.close (tie.spec of-requires cast-t3 mul-t4 cast-t5 mul-t6 cast-t7 mul-t8 returns)

@@ -1,0 +1,28 @@
+-- What the workers answer, and what they ask for, which every accepted step has. Assumes nothing.
+use Prim.Native.Nat.{ℕ, _≤_}
+use mathlib.Core.Path.{_≡_}
+use mathlib.Core.List.{List}
+use lib.ListN.{length}
+use Rattle.answers.specs.Calls.{Call}
+use Rattle.warp.specs.Buffers.{wordsNeeded}
+use Rattle.step.specs.Step.{stepped}
+use Rattle.step.specs.Answers.{bufferRefusals}
+
+-- a step whose selectors were judged
+abbrev pub stepCallIn : (kind signs mode : ℕ) (a b c d : List ℕ) → Call (List ℕ)
+stepCallIn kind signs mode a b c d = record { refusals = bufferRefusals kind (length a) (length b) (length c) (length d); gives = stepped kind signs mode a b c }
+
+-- its numbers
+pub record Ready (kind signs mode : ℕ) : Type 0 where
+  pub low : 1 ≤ kind
+  pub high : kind ≤ 5
+  pub signs-le : signs ≤ 3
+  pub mode-le : mode ≤ 1
+  pub plain : kind ≡ 1 → signs ≡ 0
+
+-- the lengths of its A, B, C and D
+pub record Sized (kind a b c d : ℕ) : Type 0 where
+  pub of-a : a ≡ wordsNeeded kind 0
+  pub of-b : b ≡ wordsNeeded kind 1
+  pub of-c : c ≡ wordsNeeded kind 2
+  pub of-d : d ≡ wordsNeeded kind 2
