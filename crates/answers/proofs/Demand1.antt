@@ -1,4 +1,4 @@
--- Demand 1, once for every call, a sentence above its statement. Assumes nothing.
+-- Demand 1, once for every call. Assumes nothing.
 use mathlib.Core.Path.{_≡_, refl, sym, ap, ap₂, _∙_}
 use mathlib.Core.Bool.{Bool, true, false, false≢true}
 use mathlib.Core.Logic.{_↔_, _⊎_, inl, inr}
@@ -48,8 +48,7 @@ module _ {X : Type 0} (x : X) where
   given-by (l ∷ ls) = line-given (l .number) (l .detail) x (first ls x) (holds (l .test)) (says (l .test)) (given-by ls)
 
 module _ {X : Type 0} (call : Call X) where
-  -- 'Bad input gets its numbered refusal', 'given exactly when', 'the first in order': a call is refused with a number and a detail exactly when
-  -- the first of its lines that says so has them,
+  -- A call is refused with a number and a detail exactly when the first of its lines that says so has them,
   pub refused-when : (n d : ℕ) → (answer call ≡ refusal n d) ↔ Gives (call .refusals) n d
   refused-when = refused-by (call .gives) (call .refusals)
 
@@ -76,7 +75,7 @@ module _ {X : Type 0} {call : Call X} {old : X} {verdict : Verdict} {left : X} (
     λ g. one-verdict verdict Accepted (given tt) (verdict-is ∙ given-by tt (call .refusals) .1 g) refl,
   )
 
-  -- 'a refused call writes no word anywhere, and a refused run comes back as it went in'
+  -- A refused one leaves what was there,
   pub refused-leaves : {f : Refusal} → verdict ≡ Refused f → left ≡ old
   refused-leaves e = m .left-is ∙ ap (λ (v : Verdict). after (told v) (call .gives) old) e
 
@@ -97,7 +96,7 @@ module _ {X : Type 0} {call : Call X} where
     pub reply-given-when : (reply ≡ given (call .gives)) ↔ NoneSays (call .refusals)
     reply-given-when = (λ e. given-when call .0 (sym (reply-is r) ∙ e), λ g. reply-is r ∙ given-when call .1 g)
 
-  -- 'Show that no second answer satisfies it': of a call that gives something back,
+  -- Two that meet a contract are equal: of a call that gives something back,
   pub no-second-reply : {a b : Answer X} → Replies call a → Replies call b → a ≡ b
   no-second-reply m n = reply-is m ∙ sym (reply-is n)
 

@@ -6,7 +6,7 @@ use mathlib.Core.List.{List, [], _∷_}
 use Prim.Native.Nat.{ℕ}
 use native.Mathlib.Omega.{arith}
 use borrow.Author.Tests.{ltb-true, ltb-false, lt-ltb, le-ltb, leb-true, leb-false, le-leb, lt-leb, eqb-true, eqb-false, eq-eqb, ne-eqb, not-true, not-false}
-use Rattle.laws.specs.Choice.{if_then_else_, _=?_}
+use Rattle.laws.specs.Choice.{_=?_}
 use Rattle.answers.specs.Refusals.{Answer, given, refusal, numberOf, detailOf, told, after}
 use Rattle.answers.specs.Tests.{Test, over, under, reaches, is, differs, either, both, unless, somewhere, holds, firstOf}
 use Rattle.answers.specs.Calls.{Line, _then_, first, Call, answer}

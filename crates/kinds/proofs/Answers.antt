@@ -7,7 +7,7 @@ use Prim.Native.Nat.{ℕ, _<_}
 use borrow.Author.Tests.{leb-false}
 use Rattle.laws.specs.Choice.{if_then_else_, _≤?_}
 use Rattle.laws.proofs.Choice.{or-false, or-comm}
-use Rattle.answers.specs.Refusals.{Answer, given, refusal, refused, numberOf, detailOf}
+use Rattle.answers.specs.Refusals.{given, refusal, refused, numberOf, detailOf}
 use Rattle.answers.specs.Calls.{Line, _when_, _then_, first, answer}
 use Rattle.answers.specs.Contracts.{Replies}
 use Rattle.answers.specs.declared.Refusal.{Refusal}
@@ -15,10 +15,10 @@ use Rattle.answers.proofs.Shows as shows
 use Rattle.answers.proofs.Demand1.{reply-is}
 use Rattle.kinds.specs.Kinds.{lanes, entryOf, kindOf, roleOf, rows, columns, elements}
 use Rattle.kinds.specs.Places.{placeOf}
-use Rattle.kinds.specs.Rule.{elementsOf, majors, minors, turn, placeIn, holderIn, holderOf, Laid, major, minor, laneOf, elementOf}
+use Rattle.kinds.specs.Rule.{elementsOf, majors, minors, turn, placeIn, holderIn, holderOf, major, minor, laneOf, elementOf}
 use Rattle.kinds.specs.Refusals.{unknownKind, unknownRole, layoutRefusals, elementOutside, entryOutside}
-use Rattle.kinds.specs.Answers.{placeCall, findCall, placeAnswer, findAnswer}
-use Rattle.kinds.specs.Workers.{toldLayout, layoutCall, placeCallIn, findCallIn}
+use Rattle.kinds.specs.Answers.{findCall, placeAnswer, findAnswer}
+use Rattle.kinds.specs.Workers.{toldLayout, layoutCall, placeCallIn, findCallIn, Laid}
 use Rattle.kinds.specs.declared.Layout.{Layout}
 use Rattle.kinds.specs.declared.Known.{Known}
 use Rattle.kinds.specs.declared.Known.the-variants.{As, Refused as Known·Refused}

@@ -10,7 +10,8 @@ use lib.ListN.{getD}
 use Rattle.laws.proofs.Every.{all₂, all₂-≤, all₂-≡, all₂-true}
 use Rattle.laws.proofs.Choice.{or-right}
 use Rattle.kinds.specs.Kinds.{kinds, roles, entry, table, entryOf, roleOf, KnownRole, rows, columns, bits, words, elements, wordBits}
-use Rattle.kinds.specs.Rule.{sideOf, layoutOf, elementsOf, majors, minors, rowsOf, columnsOf, turn, Laid}
+use Rattle.kinds.specs.Rule.{sideOf, layoutOf, elementsOf, majors, minors, rowsOf, columnsOf, turn}
+use Rattle.kinds.specs.Workers.{Laid}
 use Rattle.kinds.specs.declared.Entry.{Entry}
 use Rattle.kinds.specs.declared.Layout.{Layout}
 

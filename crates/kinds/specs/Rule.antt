@@ -1,14 +1,12 @@
 -- One rule for every kind and role, over p, the elements that stand side by side, and h, the halves of eight rows: lane and element
 -- are digits, and so are the major and the minor number. For A, C and D the row is the major number and the column the minor one; for B
 -- the other way round. proofs/Whole.antt ties it to document 01's rules. Assumes nothing.
-use Prim.Native.Nat.{ℕ, _+_, _*_, _/_, _%_, _<_, _≤_}
-use mathlib.Core.Path.{_≡_}
+use Prim.Native.Nat.{ℕ, _+_, _*_, _/_, _%_}
 use mathlib.Core.Bool.{Bool, true, false}
 use Rattle.laws.specs.Choice.{if_then_else_, _<?_}
-use Rattle.kinds.specs.Kinds.{KnownRole, roleA, roleB, roleC, wordBits, entryOf, bits, words}
+use Rattle.kinds.specs.Kinds.{KnownRole, roleA, roleB, roleC, wordBits, bits, words}
 use Rattle.kinds.specs.declared.Entry.{Entry}
 use Rattle.kinds.specs.declared.Layout.{Layout}
-use Rattle.kinds.specs.declared.Layouts.{Layouts}
 
 -- lane and element to the major and the minor number
 unfoldable pub major : (p h lane i : ℕ) → ℕ
@@ -41,10 +39,6 @@ layoutOf e roleA = spread (bits e roleA) (words e roleA) (sideOf (e .3)) (e .0) 
 layoutOf e roleB = spread (bits e roleB) (words e roleB) (sideOf (e .3)) (e .1) (e .2) true
 layoutOf e roleC = spread (bits e roleC) (words e roleC) 2 (e .0) (e .1) false
 
--- the layouts of a kind's A, B and C
-abbrev pub layoutsOf : (kind : ℕ) → Layouts
-layoutsOf k = record { a = layoutOf (entryOf k) roleA; b = layoutOf (entryOf k) roleB; c = layoutOf (entryOf k) roleC }
-
 -- a lane's elements; the major and the minor numbers there are
 abbrev pub elementsOf : Layout → ℕ
 elementsOf f = f .spans * f .halves * f .side
@@ -75,30 +69,3 @@ holderIn f x = (laneOf (f .side) (x .0) (x .1), elementOf (f .side) (f .halves) 
 
 abbrev pub holderOf : Layout → ℕ × ℕ → ℕ × ℕ
 holderOf f x = holderIn f (turn (f .turned) x)
-
--- a width at which elements fill words evenly, or a word's double
-pub record Width (b : ℕ) : Type 0 where
-  pub pos : 0 < b
-  pub le : b ≤ 64
-  pub narrow : (b ≡ 64 → ⊥) → b * (wordBits / b) ≡ wordBits
-
--- what the numbers of every layout of the table have
-pub record Sane (bits words side halves spans : ℕ) : Type 0 where
-  pub width : Width bits
-  pub words-pos : 0 < words
-  pub words-le : words ≤ 8
-  pub side-pos : 0 < side
-  pub side-le : side ≤ 32
-  pub halves-pos : 0 < halves
-  pub halves-le : halves ≤ 2
-  pub spans-pos : 0 < spans
-  pub spans-le : spans ≤ 2
-  pub groups-le : spans * halves ≤ 4
-  pub elements-le : spans * halves * side ≤ 64
-  pub minors-le : spans * 4 * side ≤ 128
-  pub full : bits * (spans * halves * side) ≡ wordBits * words
-  pub narrow-side : bits < wordBits → side ≡ wordBits / bits
-  pub wide-side : wordBits ≤ bits → side ≤ 2
-
-abbrev pub Laid : Layout → Type 0
-Laid f = Sane (f .bits) (f .words) (f .side) (f .halves) (f .spans)

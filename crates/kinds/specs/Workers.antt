@@ -1,15 +1,18 @@
--- What the workers answer: the layout of a kind and a role, and place and reverse question in a layout. Assumes nothing.
-use Prim.Native.Nat.{ℕ}
+-- What the workers answer, and what they ask for. Assumes nothing.
+use Prim.Native.Nat.{ℕ, _*_, _/_, _<_, _≤_}
+use mathlib.Core.Path.{_≡_}
 use mathlib.Core.List.{[], _∷_}
 use Rattle.answers.specs.Refusals.{Answer, given, refused}
 use Rattle.answers.specs.Calls.{_when_, Call}
-use Rattle.kinds.specs.Kinds.{entryOf, roleOf}
+use Rattle.kinds.specs.Kinds.{roleA, roleB, roleC, wordBits, entryOf, roleOf}
 use Rattle.kinds.specs.Rule.{layoutOf, elementsOf, majors, minors, placeIn, holderIn}
 use Rattle.kinds.specs.Refusals.{layoutRefusals, elementOutside, entryOutside}
 use Rattle.kinds.specs.declared.Layout.{Layout}
+use Rattle.kinds.specs.declared.Layouts.{Layouts}
 use Rattle.kinds.specs.declared.Known.{Known}
 use Rattle.kinds.specs.declared.Known.the-variants.{As, Refused as Known·Refused}
 
+-- the layout of a kind and a role, and the layouts of a kind's A, B and C
 abbrev pub toldLayout : Known → Answer Layout
 toldLayout (As f) = given f
 toldLayout (Known·Refused x) = refused x
@@ -17,9 +20,39 @@ toldLayout (Known·Refused x) = refused x
 abbrev pub layoutCall : (kind role : ℕ) → Call Layout
 layoutCall k r = record { refusals = layoutRefusals k r; gives = layoutOf (entryOf k) (roleOf r) }
 
+abbrev pub layoutsOf : (kind : ℕ) → Layouts
+layoutsOf k = record { a = layoutOf (entryOf k) roleA; b = layoutOf (entryOf k) roleB; c = layoutOf (entryOf k) roleC }
+
+-- place and the reverse question in a layout, the latter by its major and minor number
 abbrev pub placeCallIn : Layout → (lane i : ℕ) → Call (ℕ × ℕ)
 placeCallIn f lane i = record { refusals = 6 when elementOutside (elementsOf f) lane i ∷ []; gives = placeIn f lane i }
 
--- by the major and the minor number
 abbrev pub findCallIn : Layout → ℕ × ℕ → Call (ℕ × ℕ)
 findCallIn f x = record { refusals = 6 when entryOutside (majors f) (minors f) (x .0) (x .1) ∷ []; gives = holderIn f x }
+
+-- a width at which elements fill words evenly, or a word's double
+pub record Width (b : ℕ) : Type 0 where
+  pub pos : 0 < b
+  pub le : b ≤ 64
+  pub narrow : (b ≡ 64 → ⊥) → b * (wordBits / b) ≡ wordBits
+
+-- what the numbers of every layout of the table have
+pub record Sane (bits words side halves spans : ℕ) : Type 0 where
+  pub width : Width bits
+  pub words-pos : 0 < words
+  pub words-le : words ≤ 8
+  pub side-pos : 0 < side
+  pub side-le : side ≤ 32
+  pub halves-pos : 0 < halves
+  pub halves-le : halves ≤ 2
+  pub spans-pos : 0 < spans
+  pub spans-le : spans ≤ 2
+  pub groups-le : spans * halves ≤ 4
+  pub elements-le : spans * halves * side ≤ 64
+  pub minors-le : spans * 4 * side ≤ 128
+  pub full : bits * (spans * halves * side) ≡ wordBits * words
+  pub narrow-side : bits < wordBits → side ≡ wordBits / bits
+  pub wide-side : wordBits ≤ bits → side ≤ 2
+
+abbrev pub Laid : Layout → Type 0
+Laid f = Sane (f .bits) (f .words) (f .side) (f .halves) (f .spans)

@@ -1,6 +1,6 @@
 -- Texts put one after another, how long a line can be, and what is printed for one record more. Assumes nothing.
 use mathlib.Core.Path.{_≡_, refl, sym, ap, _∙_}
-use mathlib.Core.Bool.{Bool, true, false, _||_}
+use mathlib.Core.Bool.{Bool, true, false}
 use mathlib.Core.List.{List, [], _∷_, _++_, append-assoc, append-nil}
 use Prim.Native.Nat.{ℕ, _+_, _-_, _*_, _%_, _<_, _≤_}
 use native.Mathlib.Nat.{add-zero}
@@ -8,11 +8,8 @@ use native.Mathlib.Numerals.{add-one}
 use native.Mathlib.Omega.{arith}
 use lib.ListN.{length, take, drop, getD, set, length-append, length-set, length-take, length-drop, take-append-drop}
 use lib.Seq.{length-take-le, take-suc-set, take-add, getD-drop, drop-set-lt, drop-drop}
-use borrow.Author.Tests.{leb-false}
-use Rattle.laws.specs.Choice.{if_then_else_, _≤?_, _<?_}
-use Rattle.laws.proofs.Choice.{or-false}
-use Rattle.kinds.specs.Kinds.{lanes}
-use Rattle.kinds.specs.Rule.{elementsOf, turn, placeIn, major, minor}
+use Rattle.laws.specs.Choice.{if_then_else_, _<?_}
+use Rattle.kinds.specs.Rule.{turn, major, minor}
 use Rattle.answers.specs.Refusals.{Answer, given, refusal}
 use Rattle.kinds.specs.Answers.{placeAnswer}
 use Rattle.kinds.proofs.Digits.{major-lt, minor-lt}

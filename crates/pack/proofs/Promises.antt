@@ -40,13 +40,13 @@ packed-only k r ok m ws nm nw fw at =
     round.packed-only (layoutAt k r) (laid k r ok) m ws (nm ∙ sym (entries-needed k r ok)) fw (nw ∙ sym (words-needed k r ok))
     (λ lane i hl hi. sym (at-rule k r ok ws m (λ lane i x e. sym (at lane i x e)) lane i hl hi))
 
--- 'Unpacking what was packed gives the matrix back': for every accepted pack.
+-- Packed and unpacked, for every accepted pack;
 pub pack-unpack : (k r : ℕ) (m ws : List ℕ) → packAnswer k r m ws ≡ given tt → unpackedOf k r (packedOf k r m) ≡ m
 pack-unpack k r m ws a =
     let c = pack-accepted k r m ws a in
     let ok = c .0 in
     round.pack-unpack (layoutAt k r) (laid k r ok) m (subst (λ (b : ℕ). Fitting b m) (bits-are k r ok) (c .3)) (c .1 ∙ sym (entries-needed k r ok))
 
--- 'and packing what was unpacked the words': for every warp of 32-bit words of the right length.
+-- unpacked and packed, for every warp of 32-bit words of the right length.
 pub unpack-pack : (k r : ℕ) → Legal k r → (ws : List ℕ) → length ws ≡ wordsNeeded k r → Fitting 32 ws → packedOf k r (unpackedOf k r ws) ≡ ws
 unpack-pack k r ok ws n fit = round.unpack-pack (layoutAt k r) (laid k r ok) ws fit (n ∙ sym (words-needed k r ok))

@@ -13,10 +13,11 @@ use Rattle.laws.proofs.Fields.{field-joined, joined-ext}
 use Rattle.laws.proofs.Lists.{block-le}
 use Rattle.laws.proofs.Toward.{brings-on, brings-stores, lent-stores}
 use Rattle.kinds.specs.Kinds.{lanes}
-use Rattle.kinds.specs.Rule.{Laid, elementsOf, rowsOf, columnsOf}
+use Rattle.kinds.specs.Rule.{elementsOf, rowsOf, columnsOf}
+use Rattle.kinds.specs.Workers.{Laid}
 use Rattle.kinds.specs.declared.Layout.{Layout}
-use Rattle.warp.specs.Buffers.{wordAt, packed, stepOf, Fitting}
-use Rattle.warp.specs.Stretches.{sizeOf, holdingOf, stretchesOf, placeAt, WordsOfLane}
+use Rattle.warp.specs.Buffers.{wordAt, packed, Fitting}
+use Rattle.warp.specs.Stretches.{sizeOf, holdingOf, stretchesOf, placeAt, WordsOfLane, stepOf}
 use Rattle.warp.proofs.Elements.{word-narrow, word-half}
 use Rattle.warp.proofs.Places.{place-in, stretch-fills}
 use Rattle.warp.proofs.Round.{packed-word}

@@ -5,7 +5,8 @@ use mathlib.Core.List.{List}
 use lib.ListN.{length}
 use Rattle.answers.specs.Calls.{Call}
 use Rattle.kinds.specs.Kinds.{lanes}
-use Rattle.kinds.specs.Rule.{Laid, rowsOf, columnsOf}
+use Rattle.kinds.specs.Rule.{rowsOf, columnsOf}
+use Rattle.kinds.specs.Workers.{Laid}
 use Rattle.kinds.specs.declared.Layout.{Layout}
 use Rattle.warp.specs.Buffers.{packed, Fitting}
 use Rattle.pack.specs.Answers.{matrixRefusals}

@@ -1,5 +1,5 @@
--- Demand 3, sentence by sentence, and what document 01 promises of runs. The blocks are fed by the definitions that feed's contract cites, into
--- a newly opened run; 'in every order' is every permutation of the list. Assumes nothing.
+-- What document 01 promises of runs, and demand 3 for blocks that are accepted. The blocks are fed by the definitions that feed's contract cites, into
+-- a newly opened run; every order is every permutation of the list. Assumes nothing.
 use mathlib.Core.Path.{_≡_, refl, sym, ap, ap₂, subst, _∙_}
 use mathlib.Core.Bool.{Bool, true, false}
 use mathlib.Core.Logic.{_⊎_, inl, inr}

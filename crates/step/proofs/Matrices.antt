@@ -17,7 +17,8 @@ use Rattle.laws.proofs.Fields.{field-lt, field-joined}
 use Rattle.laws.proofs.Lists.{length-tab, getD-tab, tab-ext}
 use Rattle.laws.proofs.Integers.{word-lt}
 use Rattle.kinds.specs.Kinds.{lanes, entryOf, roleOf, rows, columns}
-use Rattle.kinds.specs.Rule.{Laid, sideOf, elementsOf, rowsOf, columnsOf, laneOf, elementOf, major, minor, placeIn, holderOf}
+use Rattle.kinds.specs.Rule.{sideOf, elementsOf, rowsOf, columnsOf, laneOf, elementOf, major, minor, placeIn, holderOf}
+use Rattle.kinds.specs.Workers.{Laid}
 use Rattle.kinds.specs.declared.Entry.{Entry}
 use Rattle.kinds.specs.declared.Layout.{Layout}
 use Rattle.kinds.proofs.Table.{Legal, line, layoutAt, sane, rows-are, columns-are}

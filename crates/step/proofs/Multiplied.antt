@@ -11,7 +11,8 @@ use Rattle.laws.specs.Choice.{_=?_}
 use Rattle.laws.specs.Lists.{tab, blocks}
 use Rattle.laws.proofs.Lists.{tab-ext}
 use Rattle.kinds.specs.Kinds.{lanes, entryOf}
-use Rattle.kinds.specs.Rule.{Laid, layoutsOf, majors, minors, major, minor}
+use Rattle.kinds.specs.Rule.{majors, minors, major, minor}
+use Rattle.kinds.specs.Workers.{Laid, layoutsOf}
 use Rattle.kinds.specs.declared.Layouts.{Layouts}
 use Rattle.kinds.proofs.Digits.{major-lt, minor-lt}
 use Rattle.kinds.proofs.Table.{layoutAt, sane}

@@ -28,15 +28,14 @@ rowsD kind = rows (entryOf kind) (roleOf 2)
 abbrev pub columnsD : (kind : ℕ) → ℕ
 columnsD kind = columns (entryOf kind) (roleOf 2)
 
--- 'D at (r, c) is C at (r, c) plus the sum over k of A(r, k) times B(k, c)', limited by the mode: D's words, read as a matrix, have the result at every
--- row and column.
+-- D's words, read as a matrix, have the result at every row and column.
 pub result-at : (k signs mode : ℕ) → Ready k signs mode → (a b c : List ℕ) (row column : ℕ) → row < rowsD k → column < columnsD k
     → entryIn k 2 (stepped k signs mode a b c) row column ≡ resultAt k signs mode a b c row column
 result-at k signs mode ok a b c row column hr hc =
     let l = legal k (ok .low) (ok .high) 2 (omega arith) in
     entry-D k (ok .low) (ok .high) signs mode a b c row column (subst (λ (n : ℕ). row < n) (rows-are k 2 l) hr) (subst (λ (n : ℕ). column < n) (columns-are k 2 l) hc)
 
--- 'Mode 0 wraps the exact result to 32 bits': the word's signed number differs from it by a multiple of 2^32, and no other 32-bit word's does.
+-- In mode 0 the word's signed number differs from it by a multiple of 2^32, and no other 32-bit word's does.
 pub wrapped : (c : ℕ) (exact : ℤ) → Wraps (int32 (cellOf 0 c exact)) (int32 c +ℤ exact)
 unfolding cellOf
 wrapped c exact = wraps (int32 c +ℤ exact)
@@ -45,7 +44,7 @@ pub wrapped-only : (c w : ℕ) (exact : ℤ) → w < 2 ^ 32 → Wraps (int32 w) 
 unfolding cellOf
 wrapped-only c w exact h e = wraps-only w (int32 c +ℤ exact) h e
 
--- 'mode 1 clamps it once, at the end': the word's signed number is the clamped one, which is the exact one in range and the end that it is past else.
+-- In mode 1 the word's signed number is the clamped one, which is the exact one in range and the end that it is past else.
 pub clamped : (c : ℕ) (exact : ℤ) → int32 (cellOf 1 c exact) ≡ clamp (int32 c +ℤ exact)
 unfolding cellOf
 clamped c exact = clamp-word (int32 c +ℤ exact)
@@ -56,7 +55,7 @@ in-range = clamp-in
 pub past-end : (n : ℕ) → 2147483647 ≤ n → (clamp (pos n) ≡ pos 2147483647) × (clamp (negsuc n) ≡ negsuc 2147483647)
 past-end = clamp-past
 
--- 'Two accepted steps that agree in these agree in row r of D: no boat reaches another boat's row.'
+-- Two accepted steps that agree in row r of A and C and in B agree in row r of D.
 module _ (k signs mode row : ℕ) (a a′ b b′ c c′ : List ℕ)
     (same-a : (kk : ℕ) → kk < depth k → entryIn k 0 a row kk ≡ entryIn k 0 a′ row kk)
     (same-b : (kk column : ℕ) → kk < depth k → column < columnsD k → entryIn k 1 b kk column ≡ entryIn k 1 b′ kk column)

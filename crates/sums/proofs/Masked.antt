@@ -18,11 +18,12 @@ use Rattle.laws.proofs.Fields.{field-joined}
 use Rattle.laws.proofs.Lists.{getD-tab}
 use Rattle.laws.proofs.Toward.{brings-on, brings-stores}
 use Rattle.kinds.specs.Kinds.{lanes}
-use Rattle.kinds.specs.Rule.{Laid, elementsOf, majors, minors, rowsOf, columnsOf, turn, major, minor, laneOf, elementOf}
+use Rattle.kinds.specs.Rule.{elementsOf, majors, minors, rowsOf, columnsOf, turn, major, minor, laneOf, elementOf}
+use Rattle.kinds.specs.Workers.{Laid}
 use Rattle.kinds.specs.declared.Layout.{Layout}
 use Rattle.kinds.proofs.Digits.{lane-back, element-back, major-lt, minor-lt}
-use Rattle.warp.specs.Buffers.{elementAt, index, stepOf}
-use Rattle.warp.specs.Stretches.{sizeOf, stretchesOf, placeAt, OfLane, OfQuad}
+use Rattle.warp.specs.Buffers.{elementAt, index}
+use Rattle.warp.specs.Stretches.{sizeOf, stretchesOf, placeAt, OfLane, OfQuad, stepOf}
 use Rattle.warp.proofs.Elements.{element-field}
 use Rattle.warp.proofs.Places.{place-in, stretch-fills}
 use Rattle.warp.proofs.Stretches.{narrow-size, narrow-word, stretch-element, narrow-at, place-covered}

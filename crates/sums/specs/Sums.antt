@@ -12,7 +12,8 @@ use Rattle.laws.specs.Bits.{sumN}
 use Rattle.laws.specs.Integers.{sumZ}
 use Rattle.laws.specs.Lists.{tab, blocks}
 use Rattle.kinds.specs.Kinds.{lanes}
-use Rattle.kinds.specs.Rule.{Laid, shape, majors, minors, laneOf, elementOf, major, minor}
+use Rattle.kinds.specs.Rule.{shape, majors, minors, laneOf, elementOf, major, minor}
+use Rattle.kinds.specs.Workers.{Laid}
 use Rattle.kinds.specs.declared.Layout.{Layout}
 use Rattle.kinds.specs.declared.Layouts.{Layouts}
 use Rattle.warp.specs.Buffers.{elementAt}

@@ -7,7 +7,7 @@ use native.Mathlib.Omega.{arith}
 use lib.ListN.{length, getD}
 use Rattle.laws.specs.Lists.{fills}
 use Rattle.laws.proofs.Lists.{fills-all, is-tab}
-use Rattle.kinds.specs.Rule.{Laid}
+use Rattle.kinds.specs.Workers.{Laid}
 use Rattle.kinds.proofs.Table.{Legal, layoutAt, sane}
 use Rattle.template.specs.Templates.{templateKind, templateRole}
 

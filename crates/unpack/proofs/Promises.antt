@@ -1,18 +1,15 @@
 -- What document 01 and demand 2 promise of unpacking, a sentence above its statement. Assumes nothing.
 use mathlib.Core.Path.{_≡_, sym, ap, _∙_, subst}
 use mathlib.Core.List.{List}
-use mathlib.Core.Bool.{not}
 use Prim.Native.Nat.{ℕ, _<_}
-use borrow.Author.Tests.{eqb-true, not-false}
 use lib.ListN.{length, getD}
-use Rattle.laws.specs.Choice.{_=?_}
 use Rattle.kinds.specs.Kinds.{entryOf, roleOf, rows, columns}
 use Rattle.kinds.specs.Rule.{rowsOf, columnsOf, holderOf}
 use Rattle.answers.specs.Refusals.{given}
 use Rattle.kinds.specs.Answers.{placeAnswer}
 use Rattle.kinds.proofs.Table.{Legal, layoutAt, sane, rows-are, columns-are}
 use Rattle.kinds.proofs.Answers.{rule-placed}
-use Rattle.warp.specs.Buffers.{elementIn, index, unpackedOf, wordsNeeded, entriesNeeded}
+use Rattle.warp.specs.Buffers.{elementIn, index, unpackedOf, entriesNeeded}
 use Rattle.warp.proofs.Placed.{indexIn, legal, placed, laid, index-is, element-is, at-rule, entries-needed}
 use Rattle.warp.proofs.Round as round
 

@@ -11,8 +11,8 @@ use Rattle.laws.proofs.Toward.{brings-on, brings-set, brings-stores}
 use Rattle.kinds.specs.Kinds.{lanes}
 use Rattle.kinds.specs.Rule.{elementsOf, columnsOf}
 use Rattle.kinds.specs.declared.Layout.{Layout}
-use Rattle.warp.specs.Buffers.{elementAt, unpacked, stepOf}
-use Rattle.warp.specs.Stretches.{sizeOf, stretchesOf, placeAt, OfLane}
+use Rattle.warp.specs.Buffers.{elementAt, unpacked}
+use Rattle.warp.specs.Stretches.{sizeOf, stretchesOf, placeAt, OfLane, stepOf}
 use Rattle.warp.proofs.Elements.{element-field}
 use Rattle.warp.proofs.Places.{place-in, stretch-fills}
 use Rattle.warp.proofs.Round.{unpacked-at}

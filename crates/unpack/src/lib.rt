@@ -4,7 +4,7 @@ ghost use Prim.Native.Nat.{ℕ, _+_, _*_, _^_, _<_, _≤_};
 ghost use lib.ListN.{length, getD};
 ghost use Rattle.laws.specs.Fields.{field};
 ghost use Rattle.kinds.specs.Kinds.{lanes};
-ghost use Rattle.kinds.specs.Rule.{Laid};
+ghost use Rattle.kinds.specs.Workers.{Laid};
 ghost use Rattle.answers.specs.Contracts.{Meets};
 ghost use Rattle.laws.specs.Toward.{stores, Brings, Below};
 ghost use Rattle.warp.specs.Buffers.{elementAt, unpacked};

@@ -9,7 +9,8 @@ use native.Mathlib.Omega.{arith}
 use lib.ListN.{getD}
 use Rattle.laws.specs.Fields.{field, joined}
 use Rattle.laws.proofs.Fields.{field-joined, field-field, field-wide, joined-ext, joined-two}
-use Rattle.kinds.specs.Rule.{Width, turn}
+use Rattle.kinds.specs.Rule.{turn}
+use Rattle.kinds.specs.Workers.{Width}
 use Rattle.warp.specs.Buffers.{laneNumber, elementAt}
 
 per-pos : (b p : ℕ) → b * p ≡ 32 → 0 < p

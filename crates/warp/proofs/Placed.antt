@@ -4,7 +4,8 @@ use mathlib.Core.List.{List}
 use Prim.Native.Nat.{ℕ, _*_, _<_}
 use lib.ListN.{getD}
 use Rattle.kinds.specs.Kinds.{lanes, entryOf, roleOf, columns}
-use Rattle.kinds.specs.Rule.{Laid, elementsOf, rowsOf, columnsOf, placeIn}
+use Rattle.kinds.specs.Rule.{elementsOf, rowsOf, columnsOf, placeIn}
+use Rattle.kinds.specs.Workers.{Laid}
 use Rattle.answers.specs.Refusals.{given}
 use Rattle.kinds.specs.Answers.{placeAnswer}
 use Rattle.kinds.specs.declared.Layout.{Layout}

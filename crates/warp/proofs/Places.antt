@@ -6,10 +6,12 @@ use native.Mathlib.Nat.{mul-assoc, add-mul, add-zero, eq-of-mul-eq-mul-left, mul
 use native.Mathlib.Omega.{arith}
 use lib.Arith.{digits-lt, digits-div, digits-mod}
 use Rattle.kinds.specs.Kinds.{lanes}
-use Rattle.kinds.specs.Rule.{Laid, elementsOf, majors, minors, rowsOf, columnsOf, turn, major, minor, placeIn}
+use Rattle.kinds.specs.Rule.{elementsOf, majors, minors, rowsOf, columnsOf, turn, major, minor, placeIn}
+use Rattle.kinds.specs.Workers.{Laid}
 use Rattle.kinds.specs.declared.Layout.{Layout}
 use Rattle.kinds.proofs.Digits.{major-lt, minor-lt}
-use Rattle.warp.specs.Buffers.{index, stepOf}
+use Rattle.warp.specs.Buffers.{index}
+use Rattle.warp.specs.Stretches.{stepOf}
 use Rattle.warp.proofs.Elements.{bits-le}
 
 index-in : (t : Bool) (m n x y : ℕ) → x < m → y < n → index (turn t (m, n) .1) (turn t (x, y)) < turn t (m, n) .0 * turn t (m, n) .1

@@ -13,7 +13,8 @@ use Rattle.laws.specs.Lists.{blocks}
 use Rattle.laws.proofs.Fields.{field-lt, field-joined, joined-field, joined-ext, joined-lt}
 use Rattle.laws.proofs.Lists.{length-tab, getD-tab, is-tab}
 use Rattle.kinds.specs.Kinds.{lanes}
-use Rattle.kinds.specs.Rule.{Laid, elementsOf, majors, minors, rowsOf, columnsOf, turn, major, minor, placeIn, holderIn, holderOf}
+use Rattle.kinds.specs.Rule.{elementsOf, majors, minors, rowsOf, columnsOf, turn, major, minor, placeIn, holderIn, holderOf}
+use Rattle.kinds.specs.Workers.{Laid}
 use Rattle.kinds.specs.declared.Layout.{Layout}
 use Rattle.kinds.proofs.Digits.{lane-back, element-back, major-back, minor-back, lane-lt, element-lt, major-lt, minor-lt}
 use Rattle.kinds.proofs.Answers.{turn-turn}

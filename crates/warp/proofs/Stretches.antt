@@ -12,10 +12,11 @@ use lib.Dec.{T, ltb, ltb→lt, nltb→le}
 use Rattle.laws.specs.Toward.{Below}
 use Rattle.laws.proofs.Toward.{same-or-not}
 use Rattle.kinds.specs.Kinds.{lanes}
-use Rattle.kinds.specs.Rule.{Laid, elementsOf, rowsOf, columnsOf, major, minor, holderOf}
+use Rattle.kinds.specs.Rule.{elementsOf, rowsOf, columnsOf, major, minor, holderOf}
+use Rattle.kinds.specs.Workers.{Laid}
 use Rattle.kinds.specs.declared.Layout.{Layout}
-use Rattle.warp.specs.Buffers.{index, stepOf}
-use Rattle.warp.specs.Stretches.{sizeOf, abreastIn, stretchesOf, holdingOf, placeAt, OfQuad, WordsOfQuad}
+use Rattle.warp.specs.Buffers.{index}
+use Rattle.warp.specs.Stretches.{sizeOf, abreastIn, stretchesOf, holdingOf, placeAt, OfQuad, WordsOfQuad, stepOf}
 use Rattle.warp.proofs.Places.{side-index, columns-pos, halves-per, wide-is, stretch-words}
 use Rattle.warp.proofs.Round.{place-back, lane-in, element-in}
 

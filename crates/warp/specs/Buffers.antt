@@ -1,6 +1,5 @@
 -- Document 01, 'Kinds': what stands in a warp buffer and in a matrix buffer. Assumes nothing.
 use Prim.Native.Nat.{ℕ, _+_, _*_, _^_, _<_}
-use mathlib.Core.Bool.{Bool, true, false}
 use mathlib.Core.List.{List}
 use lib.ListN.{length, getD}
 use Rattle.laws.specs.Fields.{field, joined}
@@ -20,11 +19,6 @@ elementAt bits words ws lane i = field bits i (laneNumber words ws lane)
 -- A matrix buffer is row-major, one number an element, holding its bit pattern.
 abbrev pub index : (columns : ℕ) → ℕ × ℕ → ℕ
 index columns x = x .0 * columns + x .1
-
--- the step in a matrix buffer from a minor number to the next
-abbrev pub stepOf : (turned : Bool) → (columns : ℕ) → ℕ
-stepOf false columns = 1
-stepOf true columns = columns
 
 -- every entry fits so many bits
 abbrev pub Fitting : (bits : ℕ) → List ℕ → Type 0

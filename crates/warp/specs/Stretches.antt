@@ -1,6 +1,7 @@
 -- A stretch of a lane: the elements that one word holds, or one element that takes a word or two. Its places follow one another, and the
 -- four lanes of a quad have theirs in one line; so buffers are filled stretch by stretch, quad by quad. For the workers. Assumes nothing.
 use Prim.Native.Nat.{ℕ, _+_, _*_}
+use mathlib.Core.Bool.{Bool, true, false}
 use Rattle.laws.specs.Choice.{if_then_else_, _<?_, _=?_}
 use Rattle.laws.specs.Toward.{Below, At}
 use Rattle.kinds.specs.Kinds.{wordBits}
@@ -39,3 +40,8 @@ WordsOfLane f n r lane = Below n (λ k. At (lane * f .words + (r * n + k)))
 
 abbrev pub WordsOfQuad : Layout → (n stretch quad : ℕ) → ℕ → Type 0
 WordsOfQuad f n r quad = Below 4 (λ t. WordsOfLane f n r (quad * 4 + t))
+
+-- the step in a matrix buffer from a minor number to the next
+abbrev pub stepOf : (turned : Bool) → (columns : ℕ) → ℕ
+stepOf false columns = 1
+stepOf true columns = columns

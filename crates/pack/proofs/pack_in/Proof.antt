@@ -1,6 +1,6 @@
 -- The tests that led to a return decide it; a refusal leaves the words as they were. Assumes nothing.
 use borrow.Author.Needs.{needs}
-use mathlib.Core.Path.{_≡_, refl, sym, ap, ap₂, subst, _∙_}
+use mathlib.Core.Path.{_≡_, refl, sym, ap₂, _∙_}
 use mathlib.Core.Bool.{false}
 use Prim.Native.Nat.{_*_}
 use native.Mathlib.Nat.{mul-le-mul}
@@ -8,7 +8,7 @@ use native.Mathlib.Omega.{arith}
 use denote.Ref.{now}
 use lib.ListN.{length}
 use Rattle.kinds.specs.Rule.{rowsOf, columnsOf}
-use Rattle.answers.specs.Tests.{somewhere, firstOf}
+use Rattle.answers.specs.Tests.{somewhere}
 use Rattle.answers.proofs.Shows.{Shows, skips, stops, kept, shows, denied}
 use Rattle.pack.specs.Answers.{tooWide}
 use Rattle.pack.proofs.pack_in.Statement.{statement}

@@ -5,7 +5,8 @@ use mathlib.Core.Bool.{Bool, true, false}
 use mathlib.Core.Logic.{_⊎_, inl, inr}
 use Prim.Native.Nat.{ℕ, _-_, _*_, _^_, _<_, _≤_}
 use native.Mathlib.Omega.{arith}
-use Rattle.kinds.specs.Rule.{Laid, majors, minors}
+use Rattle.kinds.specs.Rule.{majors, minors}
+use Rattle.kinds.specs.Workers.{Laid}
 use Rattle.kinds.specs.declared.Layouts.{Layouts}
 use Rattle.sums.specs.Sums.{offsetOf}
 use Rattle.step.proofs.Multiplied.{multiplied, numbers, summable}

@@ -3,7 +3,7 @@ use borrow.Author.Needs.{needs}
 use mathlib.Core.Path.{sym, ap, _∙_}
 use mathlib.Core.Bool.{Bool}
 use Rattle.kinds.specs.Rule.{columnsOf}
-use Rattle.warp.specs.Buffers.{stepOf}
+use Rattle.warp.specs.Stretches.{stepOf}
 use Rattle.warp.proofs.step_of.Statement.{statement}
 use Rattle.warp.proofs.step_of.Tie as tie
 

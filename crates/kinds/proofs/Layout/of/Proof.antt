@@ -3,7 +3,8 @@ use borrow.Author.Needs.{needs}
 use mathlib.Core.Path.{sym, ap, subst, _∙_}
 use Prim.Native.Nat.{_<_}
 use Rattle.kinds.specs.Kinds.{roleOf}
-use Rattle.kinds.specs.Rule.{sideOf, layoutOf, Laid}
+use Rattle.kinds.specs.Rule.{sideOf, layoutOf}
+use Rattle.kinds.specs.Workers.{Laid}
 use Rattle.kinds.specs.declared.Entry.{Entry}
 use Rattle.kinds.proofs.Table.{Legal, bits-pos, side-pos, sane}
 use Rattle.kinds.proofs.Layout.of.Statement.{statement}

@@ -1,9 +1,9 @@
 -- Refusal 10 was given, and stands, or not, and the number of blocks and the lengths decide. Assumes nothing.
 use borrow.Author.Needs.{needs}
-use mathlib.Core.List.{List, [], _∷_}
+use mathlib.Core.List.{[], _∷_}
 use native.Mathlib.Omega.{arith}
 use Rattle.answers.specs.Tests.{differs}
-use Rattle.answers.specs.Calls.{Line, _when_, _at_when_}
+use Rattle.answers.specs.Calls.{_when_, _at_when_}
 use Rattle.answers.proofs.Shows.{admitted, stands, continues, skips, accepts}
 use Rattle.warp.specs.Buffers.{wordsNeeded}
 use Rattle.run.specs.Answers.{fullRun}
