@@ -8,9 +8,18 @@ use lib.IntN.{ℤ, pos, negsuc, natAbs, subℕ, _+ℤ_, +ℤ-assoc, +ℤ-comm, +
 use lib.Signed.{_≤ℤ_}
 use lib.Dec.{leb→le}
 use Rattle.laws.specs.Integers.{int32, word32, clamp}
-use Rattle.laws.specs.Totals.{total, wrappedBy, clampedBy, clampedEach, All, NoneNegative, NonePositive, Wraps}
+use Rattle.laws.specs.Totals.{total, clampedEach, All, NoneNegative, NonePositive, Wraps}
 use Rattle.laws.proofs.Differences.{is-pos, is-neg, sub-eq, sub-add, up, down, as-diff}
 use Rattle.laws.proofs.Integers.{word-is, int-is, clamp-is, word-lt, word-int, wrap-wrap, wraps}
+
+-- a word after the numbers: wrapped after each, and clamped after each
+unfoldable pub wrappedBy : (w : ℕ) → List ℤ → ℕ
+wrappedBy w [] = w
+wrappedBy w (z ∷ zs) = wrappedBy (word32 (int32 w +ℤ z)) zs
+
+unfoldable pub clampedBy : (w : ℕ) → List ℤ → ℕ
+clampedBy w [] = w
+clampedBy w (z ∷ zs) = clampedBy (word32 (clamp (int32 w +ℤ z))) zs
 
 pub fed-wrapped : (c : ℕ) (zs : List ℤ) → c < 2 ^ 32 → wrappedBy c zs ≡ word32 (int32 c +ℤ total zs)
 unfolding wrappedBy total

@@ -1,24 +1,15 @@
--- Numbers added one after the other into a 32-bit word. Assumes nothing.
+-- Demand 3: numbers added one after the other. Assumes nothing.
 use mathlib.Core.Path.{_≡_}
 use mathlib.Core.List.{List, [], _∷_}
-use Prim.Native.Nat.{ℕ, _^_}
+use Prim.Native.Nat.{_^_}
 use lib.IntN.{ℤ, pos, _+ℤ_, _*ℤ_}
 use lib.Signed.{_≤ℤ_}
-use Rattle.laws.specs.Integers.{int32, word32, clamp}
+use Rattle.laws.specs.Integers.{clamp}
 
 -- the exact total
 unfoldable pub total : List ℤ → ℤ
 total [] = pos 0
 total (z ∷ zs) = z +ℤ total zs
-
--- a word after the numbers: wrapped after each, and clamped after each
-unfoldable pub wrappedBy : (w : ℕ) → List ℤ → ℕ
-wrappedBy w [] = w
-wrappedBy w (z ∷ zs) = wrappedBy (word32 (int32 w +ℤ z)) zs
-
-unfoldable pub clampedBy : (w : ℕ) → List ℤ → ℕ
-clampedBy w [] = w
-clampedBy w (z ∷ zs) = clampedBy (word32 (clamp (int32 w +ℤ z))) zs
 
 -- a number after the numbers, clamped after each
 unfoldable pub clampedEach : ℤ → List ℤ → ℤ

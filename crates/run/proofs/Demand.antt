@@ -8,7 +8,7 @@ use lib.IntN.{ℤ, _+ℤ_}
 use lib.ListN.{length, take, drop}
 use lib.Seq.{take-at}
 use Rattle.laws.specs.Integers.{int32, word32, clamp}
-use Rattle.laws.specs.Totals.{wrappedBy, clampedBy}
+use Rattle.laws.proofs.Totals.{wrappedBy, clampedBy}
 use Rattle.answers.specs.Refusals.{Answer, given, after}
 use Rattle.kinds.proofs.Table.{layoutAt, sane}
 use Rattle.warp.specs.Buffers.{wordsNeeded}

@@ -12,8 +12,8 @@ use lib.ListN.{length, take, drop}
 use lib.Seq.{take-at}
 use Rattle.laws.specs.Choice.{if_then_else_, _=?_}
 use Rattle.laws.specs.Integers.{int32, clamp}
-use Rattle.laws.specs.Totals.{total, wrappedBy, clampedBy, clampedEach, NoneNegative, NonePositive, Wraps}
-use Rattle.laws.proofs.Totals.{fed-wraps, fed-up, fed-down, fed-clamped}
+use Rattle.laws.specs.Totals.{total, clampedEach, NoneNegative, NonePositive, Wraps}
+use Rattle.laws.proofs.Totals.{wrappedBy, clampedBy, fed-wraps, fed-up, fed-down, fed-clamped}
 use Rattle.answers.specs.Refusals.{Answer, given, refusal, after}
 use Rattle.answers.proofs.Shows.{deny}
 use Rattle.warp.specs.Buffers.{wordsNeeded}
