@@ -13,7 +13,7 @@ use Rattle.answers.specs.Contracts.{Replies}
 use Rattle.answers.specs.declared.Refusal.{Refusal}
 use Rattle.answers.proofs.Shows as shows
 use Rattle.answers.proofs.Demand1.{reply-is}
-use Rattle.kinds.specs.Kinds.{lanes, entryOf, kindOf, roleOf, rows, columns, elements}
+use Rattle.kinds.specs.Kinds.{lanes, kindOf, roleOf, columnsAt, elementsAt, rowsAt, Legal}
 use Rattle.kinds.specs.Places.{placeOf}
 use Rattle.kinds.specs.Rule.{elementsOf, majors, minors, turn, placeIn, holderIn, holderOf, major, minor, laneOf, elementOf}
 use Rattle.kinds.specs.Refusals.{unknownKind, unknownRole, layoutRefusals, elementOutside, entryOutside}
@@ -23,16 +23,16 @@ use Rattle.kinds.specs.declared.Layout.{Layout}
 use Rattle.kinds.specs.declared.Known.{Known}
 use Rattle.kinds.specs.declared.Known.the-variants.{As, Refused as Known·Refused}
 use Rattle.kinds.proofs.Digits.{lane-back, element-back, major-back, minor-back, major-lt, minor-lt, lane-lt, element-lt}
-use Rattle.kinds.proofs.Table.{Legal, layoutAt, elements-are, majors-are, minors-are, sane}
+use Rattle.kinds.proofs.Table.{layoutAt, elements-are, majors-are, minors-are, sane}
 use Rattle.kinds.proofs.Whole.{whole-at}
 use Rattle.kinds.proofs.Judged.{legal, judged-is, judged-given}
 
 -- the lines after the kind's and the role's
 abbrev outsideElement : (k r l i : ℕ) → List Line
-outsideElement k r l i = 6 when elementOutside (elements (entryOf k) (roleOf r)) l i ∷ []
+outsideElement k r l i = 6 when elementOutside (elementsAt k r) l i ∷ []
 
 abbrev outsideEntry : (k r x y : ℕ) → List Line
-outsideEntry k r x y = 6 when entryOutside (rows (entryOf k) (roleOf r)) (columns (entryOf k) (roleOf r)) x y ∷ []
+outsideEntry k r x y = 6 when entryOutside (rowsAt k r) (columnsAt k r) x y ∷ []
 
 -- two choices by one test that give alike where it lets pass
 alike : (t : Bool) (x y : ℕ × ℕ) → (t ≡ false → x ≡ y) → (if t then refusal 6 0 else given x) ≡ (if t then refusal 6 0 else given y)
@@ -64,10 +64,10 @@ module _ (k r : ℕ) (ok : Legal k r) where
       ∙ sym (judged-is k r (outsideElement k r l i) (placeOf (kindOf k) (roleOf r) l i) ok)
 
   -- whether a row and a column lie outside, by the rule
-  outside : (x y : ℕ) → (majors f ≤? turn (f .turned) (x, y) .0 || minors f ≤? turn (f .turned) (x, y) .1) ≡ (rows (entryOf k) (roleOf r) ≤? x || columns (entryOf k) (roleOf r) ≤? y)
+  outside : (x y : ℕ) → (majors f ≤? turn (f .turned) (x, y) .0 || minors f ≤? turn (f .turned) (x, y) .1) ≡ (rowsAt k r ≤? x || columnsAt k r ≤? y)
   outside x y =
       ap₂ (λ (m n : ℕ). m ≤? turn (f .turned) (x, y) .0 || n ≤? turn (f .turned) (x, y) .1) (sym (majors-are k r ok)) (sym (minors-are k r ok))
-      ∙ sym (turned (f .turned) (rows (entryOf k) (roleOf r)) (columns (entryOf k) (roleOf r)) x y)
+      ∙ sym (turned (f .turned) (rowsAt k r) (columnsAt k r) x y)
 
   pub find-is : (x y : ℕ) → answer (findCallIn f (turn (f .turned) (x, y))) ≡ findAnswer k r x y
   unfolding findAnswer

@@ -2,12 +2,12 @@
 use mathlib.Core.Path.{_≡_}
 use mathlib.Core.List.{List}
 use Prim.Native.Nat.{ℕ}
+use Rattle.kinds.specs.Kinds.{Legal}
 use Rattle.answers.specs.Refusals.{given}
 use Rattle.answers.specs.Calls.{Line, first, _then_}
 use Rattle.answers.specs.Right.{Passes}
 use Rattle.answers.proofs.Shows.{goes-on, came-on}
 use Rattle.kinds.specs.Refusals.{layoutRefusals}
-use Rattle.kinds.proofs.Table.{Legal}
 
 module _ (k r : ℕ) where
   pub legal : Passes (layoutRefusals k r) → Legal k r

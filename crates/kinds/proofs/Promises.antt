@@ -2,7 +2,7 @@
 use mathlib.Core.Path.{_≡_, refl, sym, ap, _∙_}
 use mathlib.Core.Logic.{_↔_}
 use Prim.Native.Nat.{ℕ, _<_}
-use Rattle.kinds.specs.Kinds.{lanes, kindOf, entryOf, roleOf, elements}
+use Rattle.kinds.specs.Kinds.{lanes, kindOf, roleOf, elementsAt, Legal}
 use Rattle.kinds.specs.Places.{placeOf}
 use Rattle.kinds.specs.Rule.{placeIn, turn}
 use Rattle.answers.specs.Refusals.{Answer, given, refusal}
@@ -14,7 +14,7 @@ use Rattle.kinds.specs.declared.Placed.{Placed}
 use Rattle.kinds.specs.declared.Placed.the-variants.{At, Refused as Placed·Refused}
 use Rattle.kinds.specs.declared.Held.{Held}
 use Rattle.kinds.specs.declared.Held.the-variants.{By, Refused as Held·Refused}
-use Rattle.kinds.proofs.Table.{Legal, layoutAt, sane}
+use Rattle.kinds.proofs.Table.{layoutAt, sane}
 use Rattle.kinds.proofs.Whole.{whole-at}
 use Rattle.laws.proofs.Unique.{one-answer}
 use Rattle.kinds.proofs.Answers.{place-legal, find-legal, place-is, find-is, place-find, find-place, turn-turn}
@@ -38,7 +38,7 @@ one-to-one k r l i x y = (there, back)
         ∙ ap given (turn-turn t (x, y))
 
 -- Document 01's rules, a clause a kind and role, are the one rule at every lane and element.
-pub one-rule : (k r l i : ℕ) → Legal k r → l < lanes → i < elements (entryOf k) (roleOf r) → placeOf (kindOf k) (roleOf r) l i ≡ placeIn (layoutAt k r) l i
+pub one-rule : (k r l i : ℕ) → Legal k r → l < lanes → i < elementsAt k r → placeOf (kindOf k) (roleOf r) l i ≡ placeIn (layoutAt k r) l i
 one-rule = whole-at
 
 -- 'Show that no second answer satisfies it': two answers of place that meet its contract are equal, and two of the reverse question.

@@ -1,77 +1,97 @@
 -- What holds of every line of the kinds table and every role, by tests that antt computes over the whole table. Assumes nothing.
 use mathlib.Core.Path.{_≡_}
-use mathlib.Core.Bool.{_||_}
+use mathlib.Core.Bool.{Bool, true, false, not, _||_, false≢true}
 use Prim.Native.Nat.{ℕ, _-_, _*_, _/_, _<_, _≤_}
 use native.Mathlib.Omega.{arith}
 use borrow.Author.Tests.{eqb-true, ne-eqb, lt-ltb, le-ltb}
-use lib.Dec.{T, leb, eqb}
+use lib.Dec.{T, leb, eqb, leb→le, eqb→eq}
 use Rattle.laws.specs.Choice.{if_then_else_, _<?_, _=?_}
-use lib.ListN.{getD}
-use Rattle.laws.proofs.Every.{all₂, all₂-≤, all₂-≡, all₂-true}
+use Rattle.laws.proofs.Every.{all, all-at, all₂, all₂-≤, all₂-≡, all₂-true}
 use Rattle.laws.proofs.Choice.{or-right}
-use Rattle.kinds.specs.Kinds.{kinds, roles, entry, table, entryOf, roleOf, KnownRole, rows, columns, bits, words, elements, wordBits}
+use Rattle.answers.specs.Tests.{within, Says, holds}
+use Rattle.answers.proofs.Words.{says}
+use Rattle.kinds.specs.Kinds.{kinds, roles, lineAt, entryOf, roleOf, KnownRole, rows, columns, bits, words, elements, wordBits, bitsAt, columnsAt, elementsAt, rowsAt, wordsAt, oneBitElement, oneBit, integer, Legal}
 use Rattle.kinds.specs.Rule.{sideOf, layoutOf, elementsOf, majors, minors, rowsOf, columnsOf, turn}
 use Rattle.kinds.specs.Workers.{Laid}
 use Rattle.kinds.specs.declared.Entry.{Entry}
 use Rattle.kinds.specs.declared.Layout.{Layout}
 
--- a kind and a role that are legal
-pub record Legal (k r : ℕ) : Type 0 where
-  pub low : 1 ≤ k
-  pub high : k ≤ kinds
-  pub role : r ≤ 2
-
-abbrev pub line : ℕ → Entry
-line j = getD table j (entry 0 0 0 0 0 0 0 0)
-
 abbrev pub layoutAt : ℕ → ℕ → Layout
 layoutAt k r = layoutOf (entryOf k) (roleOf r)
 
-module _ (k r : ℕ) (ok : Legal k r) where
-  le-test : (f g : Entry → KnownRole → ℕ) → T (all₂ kinds roles (λ j r. leb (f (line j) (roleOf r)) (g (line j) (roleOf r)))) → f (entryOf k) (roleOf r) ≤ g (entryOf k) (roleOf r)
-  le-test f g t = all₂-≤ kinds roles (λ j r. f (line j) (roleOf r)) (λ j r. g (line j) (roleOf r)) t (k - 1) r (omega arith) (omega arith)
+-- every kind has an element
+pub element-pos : (k : ℕ) → 1 ≤ k → k ≤ kinds → 1 ≤ entryOf k .element
+element-pos k low high = leb→le 1 (entryOf k .element) (all-at kinds (λ j. leb 1 (lineAt j .element)) tt (k - 1) (omega arith))
 
-  eq-test : (f g : Entry → KnownRole → ℕ) → T (all₂ kinds roles (λ j r. eqb (f (line j) (roleOf r)) (g (line j) (roleOf r)))) → f (entryOf k) (roleOf r) ≡ g (entryOf k) (roleOf r)
-  eq-test f g t = all₂-≡ kinds roles (λ j r. f (line j) (roleOf r)) (λ j r. g (line j) (roleOf r)) t (k - 1) r (omega arith) (omega arith)
+-- what is tested of the lines whose element lies between two
+pub where-so : (a b : Bool) → a ≡ true → T (not a || b) → T b
+where-so true b e t = t
+where-so false b e t = absurd (false≢true e)
+
+abbrev pub among : (from to : ℕ) → (Entry → Bool) → ℕ → Bool
+among from to t j = not (holds (within (lineAt j .element) from to)) || t (lineAt j)
+
+module _ (k : ℕ) (low : 1 ≤ k) (high : k ≤ kinds) (from to : ℕ) (is : (from ≤ entryOf k .element) × (entryOf k .element ≤ to)) where
+  among-at : (t : Entry → Bool) → T (all kinds (among from to t)) → T (t (entryOf k))
+  among-at t h =
+      let between = within (entryOf k .element) from to in
+      where-so (holds between) (t (entryOf k)) (says between .1 is) (all-at kinds (among from to t) h (k - 1) (omega arith))
+
+  pub among-≡ : (f g : Entry → ℕ) → T (all kinds (among from to (λ e. eqb (f e) (g e)))) → f (entryOf k) ≡ g (entryOf k)
+  among-≡ f g t = eqb→eq (f (entryOf k)) (g (entryOf k)) (among-at (λ e. eqb (f e) (g e)) t)
+
+  pub among-≤ : (f g : Entry → ℕ) → T (all kinds (among from to (λ e. leb (f e) (g e)))) → f (entryOf k) ≤ g (entryOf k)
+  among-≤ f g t = leb→le (f (entryOf k)) (g (entryOf k)) (among-at (λ e. leb (f e) (g e)) t)
+
+-- an integer kind is not one-bit
+pub not-one-bit : (k : ℕ) → Says (integer k) → holds (oneBit k) ≡ false
+not-one-bit k two = ne-eqb (entryOf k .element) oneBitElement (λ e. omega (arith, e, two))
+
+module _ (k r : ℕ) (ok : Legal k r) where
+  le-test : (f g : Entry → KnownRole → ℕ) → T (all₂ kinds roles (λ j r. leb (f (lineAt j) (roleOf r)) (g (lineAt j) (roleOf r)))) → f (entryOf k) (roleOf r) ≤ g (entryOf k) (roleOf r)
+  le-test f g t = all₂-≤ kinds roles (λ j r. f (lineAt j) (roleOf r)) (λ j r. g (lineAt j) (roleOf r)) t (k - 1) r (omega arith) (omega arith)
+
+  eq-test : (f g : Entry → KnownRole → ℕ) → T (all₂ kinds roles (λ j r. eqb (f (lineAt j) (roleOf r)) (g (lineAt j) (roleOf r)))) → f (entryOf k) (roleOf r) ≡ g (entryOf k) (roleOf r)
+  eq-test f g t = all₂-≡ kinds roles (λ j r. f (lineAt j) (roleOf r)) (λ j r. g (lineAt j) (roleOf r)) t (k - 1) r (omega arith) (omega arith)
 
   -- the bits of A and B, by which the code works out how many elements stand side by side
-  pub bits-pos : 0 < entryOf k .3
-  bits-pos = le-test (λ e ρ. 1) (λ e ρ. e .3) tt
+  pub bits-pos : 0 < entryOf k .bits
+  bits-pos = le-test (λ e ρ. 1) (λ e ρ. e .bits) tt
 
-  pub side-pos : 0 < sideOf (entryOf k .3)
-  side-pos = le-test (λ e ρ. 1) (λ e ρ. sideOf (e .3)) tt
+  pub side-pos : 0 < sideOf (entryOf k .bits)
+  side-pos = le-test (λ e ρ. 1) (λ e ρ. sideOf (e .bits)) tt
 
   -- a lane has as many elements by the rule as by its words and bits
-  pub elements-are : elements (entryOf k) (roleOf r) ≡ elementsOf (layoutAt k r)
+  pub elements-are : elementsAt k r ≡ elementsOf (layoutAt k r)
   elements-are = eq-test elements (λ e ρ. elementsOf (layoutOf e ρ)) tt
 
   -- the shape by the rule
-  pub majors-are : turn (layoutAt k r .turned) (rows (entryOf k) (roleOf r), columns (entryOf k) (roleOf r)) .0 ≡ majors (layoutAt k r)
+  pub majors-are : turn (layoutAt k r .turned) (rowsAt k r, columnsAt k r) .0 ≡ majors (layoutAt k r)
   majors-are = eq-test (λ e ρ. turn (layoutOf e ρ .turned) (rows e ρ, columns e ρ) .0) (λ e ρ. majors (layoutOf e ρ)) tt
 
-  pub minors-are : turn (layoutAt k r .turned) (rows (entryOf k) (roleOf r), columns (entryOf k) (roleOf r)) .1 ≡ minors (layoutAt k r)
+  pub minors-are : turn (layoutAt k r .turned) (rowsAt k r, columnsAt k r) .1 ≡ minors (layoutAt k r)
   minors-are = eq-test (λ e ρ. turn (layoutOf e ρ .turned) (rows e ρ, columns e ρ) .1) (λ e ρ. minors (layoutOf e ρ)) tt
 
-  pub rows-are : rows (entryOf k) (roleOf r) ≡ rowsOf (layoutAt k r)
+  pub rows-are : rowsAt k r ≡ rowsOf (layoutAt k r)
   rows-are = eq-test rows (λ e ρ. rowsOf (layoutOf e ρ)) tt
 
-  pub columns-are : columns (entryOf k) (roleOf r) ≡ columnsOf (layoutAt k r)
+  pub columns-are : columnsAt k r ≡ columnsOf (layoutAt k r)
   columns-are = eq-test columns (λ e ρ. columnsOf (layoutOf e ρ)) tt
 
   -- the bits and the words are the table's
-  pub bits-are : bits (entryOf k) (roleOf r) ≡ layoutAt k r .bits
+  pub bits-are : bitsAt k r ≡ layoutAt k r .bits
   bits-are = eq-test bits (λ e ρ. layoutOf e ρ .bits) tt
 
-  pub words-are : words (entryOf k) (roleOf r) ≡ layoutAt k r .words
+  pub words-are : wordsAt k r ≡ layoutAt k r .words
   words-are = eq-test words (λ e ρ. layoutOf e ρ .words) tt
 
   -- what is tested of every width but 64
-  narrow-test : (f g : Entry → KnownRole → ℕ) → T (all₂ kinds roles (λ j r. layoutOf (line j) (roleOf r) .bits =? 64 || f (line j) (roleOf r) =? g (line j) (roleOf r)))
+  narrow-test : (f g : Entry → KnownRole → ℕ) → T (all₂ kinds roles (λ j r. layoutOf (lineAt j) (roleOf r) .bits =? 64 || f (lineAt j) (roleOf r) =? g (lineAt j) (roleOf r)))
       → (layoutAt k r .bits ≡ 64 → ⊥) → f (entryOf k) (roleOf r) ≡ g (entryOf k) (roleOf r)
   narrow-test f g t ne =
       eqb-true (f (entryOf k) (roleOf r)) (g (entryOf k) (roleOf r))
       (or-right (layoutAt k r .bits =? 64) _ (ne-eqb (layoutAt k r .bits) 64 ne)
-      (all₂-true kinds roles (λ j r. layoutOf (line j) (roleOf r) .bits =? 64 || f (line j) (roleOf r) =? g (line j) (roleOf r)) t (k - 1) r (omega arith) (omega arith)))
+      (all₂-true kinds roles (λ j r. layoutOf (lineAt j) (roleOf r) .bits =? 64 || f (lineAt j) (roleOf r) =? g (lineAt j) (roleOf r)) t (k - 1) r (omega arith) (omega arith)))
 
   narrow-side : layoutAt k r .bits < wordBits → layoutAt k r .side ≡ wordBits / layoutAt k r .bits
   narrow-side h =

@@ -3,7 +3,7 @@ use Prim.Native.Nat.{ℕ}
 use mathlib.Core.List.{[], _∷_}
 use Rattle.answers.specs.Refusals.{Answer, given, refused}
 use Rattle.answers.specs.Calls.{_when_, _then_, Call, answer}
-use Rattle.kinds.specs.Kinds.{entryOf, kindOf, roleOf, rows, columns, elements}
+use Rattle.kinds.specs.Kinds.{entryOf, kindOf, roleOf, columnsAt, elementsAt, rowsAt}
 use Rattle.kinds.specs.Places.{placeOf}
 use Rattle.kinds.specs.Rule.{layoutOf, holderOf}
 use Rattle.kinds.specs.Refusals.{layoutRefusals, elementOutside, entryOutside}
@@ -24,7 +24,7 @@ toldHolder (Held·Refused x) = refused x
 -- the place of an element: row and column
 abbrev pub placeCall : (kind role lane i : ℕ) → Call (ℕ × ℕ)
 placeCall k r lane i = record {
-  refusals = layoutRefusals k r then 6 when elementOutside (elements (entryOf k) (roleOf r)) lane i ∷ [];
+  refusals = layoutRefusals k r then 6 when elementOutside (elementsAt k r) lane i ∷ [];
   gives = placeOf (kindOf k) (roleOf r) lane i;
 }
 
@@ -34,7 +34,7 @@ placeAnswer k r lane i = answer (placeCall k r lane i)
 -- the reverse question, whose place it is: lane and element
 abbrev pub findCall : (kind role row column : ℕ) → Call (ℕ × ℕ)
 findCall k r row column = record {
-  refusals = layoutRefusals k r then 6 when entryOutside (rows (entryOf k) (roleOf r)) (columns (entryOf k) (roleOf r)) row column ∷ [];
+  refusals = layoutRefusals k r then 6 when entryOutside (rowsAt k r) (columnsAt k r) row column ∷ [];
   gives = holderOf (layoutOf (entryOf k) (roleOf r)) (row, column);
 }
 

@@ -1,7 +1,9 @@
 -- Document 01, 'Kinds'. Assumes nothing.
-use Prim.Native.Nat.{ℕ, _-_, _*_, _/_}
+use Prim.Native.Nat.{ℕ, _-_, _*_, _/_, _≤_}
 use mathlib.Core.List.{List, [], _∷_}
 use lib.ListN.{getD}
+use Rattle.answers.specs.Tests.{Test, is, within, Says}
+use Rattle.kinds.specs.declared.Line.{Line}
 use Rattle.kinds.specs.declared.Entry.{Entry}
 
 -- A warp has 32 lanes, a quad 4 lanes.
@@ -35,49 +37,113 @@ pub data KnownRole : Type 0 where
 abbrev pub roleOf : ℕ → KnownRole
 roleOf r = getD (roleA ∷ roleB ∷ roleC ∷ []) r roleA
 
--- m, n, k of the shape; bits of an A or B element, of a C or D element; words per lane of A, of B, of C or D
-abbrev pub entry : ℕ → ℕ → ℕ → ℕ → ℕ → ℕ → ℕ → ℕ → Entry
-entry m n k bits sumBits a b c = record { 0 = m; 1 = n; 2 = k; 3 = bits; 4 = sumBits; 5 = a; 6 = b; 7 = c }
+-- What an element of A and B is: a bit, an integer, a float, in this order.
+abbrev pub oneBitElement : ℕ
+oneBitElement = 1
+
+abbrev pub int8Element : ℕ
+int8Element = 2
+
+abbrev pub int4Element : ℕ
+int4Element = 3
+
+abbrev pub f16Element : ℕ
+f16Element = 4
+
+abbrev pub tf32Element : ℕ
+tf32Element = 5
+
+abbrev pub f64Element : ℕ
+f64Element = 6
+
+-- m, n, k of the shape and the element; bits of an A or B element, of a C or D element; words per lane of A, of B, of C or D
+abbrev pub line : (m n k element bits sums a b c : ℕ) → Line
+line m n k element bits sums a b c = record { 0 = m; 1 = n; 2 = k; 3 = element; 4 = bits; 5 = sums; 6 = a; 7 = b; 8 = c }
 
 -- The table, a line a kind. C/D elements have 32 bits, except 16 in kind 7 and 64 in kinds 9 and 10.
-abbrev pub table : List Entry
+abbrev pub table : List Line
 table =
-    entry 8 8 128 1 32 1 1 2
-    ∷ entry 16 8 16 8 32 2 1 4
-    ∷ entry 16 8 32 8 32 4 2 4
-    ∷ entry 16 8 32 4 32 2 1 4
-    ∷ entry 16 8 64 4 32 4 2 4
-    ∷ entry 16 8 8 16 32 2 1 4
-    ∷ entry 16 8 8 16 16 2 1 2
-    ∷ entry 16 8 8 32 32 4 2 4
-    ∷ entry 16 8 8 64 64 8 4 8
-    ∷ entry 8 8 4 64 64 2 2 4
+    line 8 8 128 oneBitElement 1 32 1 1 2
+    ∷ line 16 8 16 int8Element 8 32 2 1 4
+    ∷ line 16 8 32 int8Element 8 32 4 2 4
+    ∷ line 16 8 32 int4Element 4 32 2 1 4
+    ∷ line 16 8 64 int4Element 4 32 4 2 4
+    ∷ line 16 8 8 f16Element 16 32 2 1 4
+    ∷ line 16 8 8 f16Element 16 16 2 1 2
+    ∷ line 16 8 8 tf32Element 32 32 4 2 4
+    ∷ line 16 8 8 f64Element 64 64 8 4 8
+    ∷ line 8 8 4 f64Element 64 64 2 2 4
     ∷ []
 
+-- the columns by name; the line of a kind
+abbrev pub named : Line → Entry
+named l = record { m = l .0; n = l .1; k = l .2; element = l .3; bits = l .4; sums = l .5; a = l .6; b = l .7; c = l .8 }
+
+abbrev pub lineAt : ℕ → Entry
+lineAt j = named (getD table j (line 0 0 0 0 0 0 0 0 0))
+
 abbrev pub entryOf : ℕ → Entry
-entryOf k = getD table (k - 1) (entry 0 0 0 0 0 0 0 0)
+entryOf k = lineAt (k - 1)
+
+-- Kind 1 is one-bit, kinds 2 to 5 are integer kinds; kinds 1 to 5 are the arithmetic kinds.
+abbrev pub oneBit : (kind : ℕ) → Test
+oneBit k = is (entryOf k .element) oneBitElement
+
+abbrev pub integer : (kind : ℕ) → Test
+integer k = within (entryOf k .element) int8Element int4Element
+
+abbrev pub arithmetic : (kind : ℕ) → Test
+arithmetic k = within (entryOf k .element) oneBitElement int4Element
+
+-- a kind that is arithmetic
+pub record Arithmetic (k : ℕ) : Type 0 where
+  pub low : 1 ≤ k
+  pub high : k ≤ kinds
+  pub is : Says (arithmetic k)
 
 -- In mMnNkK, A is M by K, B is K by N, C and D are M by N.
 abbrev pub rows : Entry → KnownRole → ℕ
-rows e roleA = e .0
-rows e roleB = e .2
-rows e roleC = e .0
+rows e roleA = e .m
+rows e roleB = e .k
+rows e roleC = e .m
 
 abbrev pub columns : Entry → KnownRole → ℕ
-columns e roleA = e .2
-columns e roleB = e .1
-columns e roleC = e .1
+columns e roleA = e .k
+columns e roleB = e .n
+columns e roleC = e .n
 
 abbrev pub bits : Entry → KnownRole → ℕ
-bits e roleA = e .3
-bits e roleB = e .3
-bits e roleC = e .4
+bits e roleA = e .bits
+bits e roleB = e .bits
+bits e roleC = e .sums
 
 abbrev pub words : Entry → KnownRole → ℕ
-words e roleA = e .5
-words e roleB = e .6
-words e roleC = e .7
+words e roleA = e .a
+words e roleB = e .b
+words e roleC = e .c
 
 -- Elements fill a word from its low bits up, then the next word: so many elements has a lane.
 abbrev pub elements : Entry → KnownRole → ℕ
 elements e ρ = words e ρ * wordBits / bits e ρ
+
+-- the same of a kind and a role by their numbers
+abbrev pub rowsAt : (kind role : ℕ) → ℕ
+rowsAt k r = rows (entryOf k) (roleOf r)
+
+abbrev pub columnsAt : (kind role : ℕ) → ℕ
+columnsAt k r = columns (entryOf k) (roleOf r)
+
+abbrev pub bitsAt : (kind role : ℕ) → ℕ
+bitsAt k r = bits (entryOf k) (roleOf r)
+
+abbrev pub wordsAt : (kind role : ℕ) → ℕ
+wordsAt k r = words (entryOf k) (roleOf r)
+
+abbrev pub elementsAt : (kind role : ℕ) → ℕ
+elementsAt k r = elements (entryOf k) (roleOf r)
+
+-- a kind and a role that are legal
+pub record Legal (k r : ℕ) : Type 0 where
+  pub low : 1 ≤ k
+  pub high : k ≤ kinds
+  pub role : r ≤ 2

@@ -35,9 +35,9 @@ spread b w p x y t = shape b w p (x / 8) (y / 4 / p) t
 
 -- A is m by k, B is k by n, C is m by n, with C's elements in pairs; in B the major number is the column.
 abbrev pub layoutOf : Entry → KnownRole → Layout
-layoutOf e roleA = spread (bits e roleA) (words e roleA) (sideOf (e .3)) (e .0) (e .2) false
-layoutOf e roleB = spread (bits e roleB) (words e roleB) (sideOf (e .3)) (e .1) (e .2) true
-layoutOf e roleC = spread (bits e roleC) (words e roleC) 2 (e .0) (e .1) false
+layoutOf e roleA = spread (bits e roleA) (words e roleA) (sideOf (e .bits)) (e .m) (e .k) false
+layoutOf e roleB = spread (bits e roleB) (words e roleB) (sideOf (e .bits)) (e .n) (e .k) true
+layoutOf e roleC = spread (bits e roleC) (words e roleC) 2 (e .m) (e .n) false
 
 -- a lane's elements; the major and the minor numbers there are
 abbrev pub elementsOf : Layout → ℕ

@@ -32,6 +32,16 @@ impl Kind {
     pub const COUNT: u32 = 10;
 }
 
+impl Kind {
+    // What an element of A and B is.
+    pub fn element(self) -> u16
+        requires { ⌜ (1 ≤ self .0) × (self .0 ≤ kinds) ⌝ }
+        ensures { λ r. ⌜ (r ≡ entryOf (self .0) .element) × (1 ≤ r) ⌝ }
+    {
+        Entry::of(self).element
+    }
+}
+
 impl Role {
     pub const A: u32 = 0;
 
@@ -59,9 +69,10 @@ pub enum Held {
     Refused(Refusal),
 }
 
-// A line of the kinds table: m, n, k; bits of an A or B element, of a C or D element; words per lane of A, of B, of C or D. The numbers are
-// narrow, since a look at one line costs a copy of the table.
-pub struct Entry(
+// A line of the kinds table: m, n, k; what an element of A and B is; bits of an A or B element, of a C or D element; words per lane of A, of
+// B, of C or D. The numbers are narrow, since a look at one line costs a copy of the table.
+pub struct Line(
+    pub u16,
     pub u16,
     pub u16,
     pub u16,
@@ -72,27 +83,63 @@ pub struct Entry(
     pub u16,
 );
 
-const KINDS: [Entry; 10] = [
-    Entry(8, 8, 128, 1, 32, 1, 1, 2),
-    Entry(16, 8, 16, 8, 32, 2, 1, 4),
-    Entry(16, 8, 32, 8, 32, 4, 2, 4),
-    Entry(16, 8, 32, 4, 32, 2, 1, 4),
-    Entry(16, 8, 64, 4, 32, 4, 2, 4),
-    Entry(16, 8, 8, 16, 32, 2, 1, 4),
-    Entry(16, 8, 8, 16, 16, 2, 1, 2),
-    Entry(16, 8, 8, 32, 32, 4, 2, 4),
-    Entry(16, 8, 8, 64, 64, 8, 4, 8),
-    Entry(8, 8, 4, 64, 64, 2, 2, 4),
+const KINDS: [Line; Kind::COUNT as usize] = [
+    Line(8, 8, 128, Entry::ONE_BIT, 1, 32, 1, 1, 2),
+    Line(16, 8, 16, Entry::INT8, 8, 32, 2, 1, 4),
+    Line(16, 8, 32, Entry::INT8, 8, 32, 4, 2, 4),
+    Line(16, 8, 32, Entry::INT4, 4, 32, 2, 1, 4),
+    Line(16, 8, 64, Entry::INT4, 4, 32, 4, 2, 4),
+    Line(16, 8, 8, Entry::F16, 16, 32, 2, 1, 4),
+    Line(16, 8, 8, Entry::F16, 16, 16, 2, 1, 2),
+    Line(16, 8, 8, Entry::TF32, 32, 32, 4, 2, 4),
+    Line(16, 8, 8, Entry::F64, 64, 64, 8, 4, 8),
+    Line(8, 8, 4, Entry::F64, 64, 64, 2, 2, 4),
 ];
 
+// The same with its columns named.
+pub struct Entry {
+    pub m: u16,
+    pub n: u16,
+    pub k: u16,
+    pub element: u16,
+    pub bits: u16,
+    pub sums: u16,
+    pub a: u16,
+    pub b: u16,
+    pub c: u16,
+}
+
 impl Entry {
+    // What an element is: a bit, an integer, a float, in this order.
+    pub const ONE_BIT: u16 = 1;
+
+    pub const INT8: u16 = 2;
+
+    pub const INT4: u16 = 3;
+
+    pub const F16: u16 = 4;
+
+    pub const TF32: u16 = 5;
+
+    pub const F64: u16 = 6;
+
     // The line of a kind.
     pub fn of(kind: Kind) -> Entry
         requires { ⌜ (1 ≤ kind .0) × (kind .0 ≤ kinds) ⌝ }
         ensures { λ r. ⌜ r ≡ entryOf (kind .0) ⌝ }
     {
-        let k = (kind.0 - 1) as usize;
-        KINDS[k]
+        let line = KINDS[(kind.0 - 1) as usize];
+        Entry {
+            m: line.0,
+            n: line.1,
+            k: line.2,
+            element: line.3,
+            bits: line.4,
+            sums: line.5,
+            a: line.6,
+            b: line.7,
+            c: line.8,
+        }
     }
 }
 
@@ -138,17 +185,17 @@ fn side_of(bits: u16) -> u16
 }
 
 fn layout_in(e: Entry, role: Role) -> Layout
-    requires { ⌜ (0 < e .3) × (0 < sideOf (e .3)) × (role .0 ≤ 2) ⌝ }
+    requires { ⌜ (0 < e .bits) × (0 < sideOf (e .bits)) × (role .0 ≤ 2) ⌝ }
     ensures { λ r. ⌜ r ≡ layoutOf e (roleOf (role .0)) ⌝ }
 {
     let r = role.0;
     if r == Role::B {
-        return Layout::new(e.3, e.6, side_of(e.3), e.1, e.2, true);
+        return Layout::new(e.bits, e.b, side_of(e.bits), e.n, e.k, true);
     }
     if r == Role::C {
-        return Layout::new(e.4, e.7, 2, e.0, e.1, false);
+        return Layout::new(e.sums, e.c, 2, e.m, e.n, false);
     }
-    Layout::new(e.3, e.5, side_of(e.3), e.0, e.2, false)
+    Layout::new(e.bits, e.a, side_of(e.bits), e.m, e.k, false)
 }
 
 impl Layout {

@@ -4,8 +4,8 @@ use mathlib.Core.List.{List}
 use Prim.Native.Nat.{ℕ}
 use lib.ListN.{length}
 use Rattle.answers.specs.Calls.{first, judgement}
-use Rattle.kinds.specs.Kinds.{entryOf, roleOf, bits}
-use Rattle.kinds.proofs.Table.{Legal, layoutAt, bits-are}
+use Rattle.kinds.specs.Kinds.{bits, bitsAt, Legal}
+use Rattle.kinds.proofs.Table.{layoutAt, bits-are}
 use Rattle.kinds.proofs.Judged.{judged-is}
 use Rattle.warp.specs.Buffers.{wordsNeeded, entriesNeeded}
 use Rattle.warp.proofs.Placed.{words-needed, entries-needed}
@@ -16,4 +16,4 @@ pub pack-is : (k r : ℕ) → Legal k r → (m ws : List ℕ) → judgement (pac
 pack-is k r ok m ws =
     ap₂ (λ (a b : ℕ). first (matrixRefusals m a (length ws) b (layoutAt k r .bits)) tt) (entries-needed k r ok) (words-needed k r ok)
     ∙ ap (λ (b : ℕ). first (matrixRefusals m (entriesNeeded k r) (length ws) (wordsNeeded k r) b) tt) (sym (bits-are k r ok))
-    ∙ sym (judged-is k r (matrixRefusals m (entriesNeeded k r) (length ws) (wordsNeeded k r) (bits (entryOf k) (roleOf r))) tt ok)
+    ∙ sym (judged-is k r (matrixRefusals m (entriesNeeded k r) (length ws) (wordsNeeded k r) (bitsAt k r)) tt ok)

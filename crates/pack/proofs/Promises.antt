@@ -3,11 +3,11 @@ use mathlib.Core.Path.{_≡_, sym, ap, _∙_, subst}
 use mathlib.Core.List.{List}
 use Prim.Native.Nat.{ℕ}
 use lib.ListN.{length, getD}
-use Rattle.kinds.specs.Kinds.{entryOf, roleOf, bits}
+use Rattle.kinds.specs.Kinds.{bitsAt, Legal}
 use Rattle.kinds.specs.Rule.{columnsOf}
 use Rattle.answers.specs.Refusals.{given}
 use Rattle.kinds.specs.Answers.{placeAnswer}
-use Rattle.kinds.proofs.Table.{Legal, layoutAt, bits-are}
+use Rattle.kinds.proofs.Table.{layoutAt, bits-are}
 use Rattle.answers.proofs.Shows.{passes}
 use Rattle.warp.specs.Buffers.{elementIn, index, unpackedOf, packedOf, Fitting, wordsNeeded, entriesNeeded}
 use Rattle.warp.proofs.Placed.{indexIn, placed, laid, index-is, element-is, at-rule, words-needed, entries-needed}
@@ -16,7 +16,7 @@ use Rattle.pack.specs.Answers.{packCall, packAnswer}
 
 -- An accepted call had a legal kind and role, the lengths that they need, and entries that fit.
 pub pack-accepted : (k r : ℕ) (m ws : List ℕ) → packAnswer k r m ws ≡ given tt
-    → Legal k r × (length m ≡ entriesNeeded k r) × (length ws ≡ wordsNeeded k r) × Fitting (bits (entryOf k) (roleOf r)) m
+    → Legal k r × (length m ≡ entriesNeeded k r) × (length ws ≡ wordsNeeded k r) × Fitting (bitsAt k r) m
 unfolding packAnswer
 pack-accepted k r m ws e =
     let p = passes (packCall k r m ws .refusals) tt e in

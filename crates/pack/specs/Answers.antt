@@ -5,7 +5,7 @@ use lib.ListN.{length, getD}
 use Rattle.answers.specs.Refusals.{Answer}
 use Rattle.answers.specs.Tests.{Test, reaches, differs}
 use Rattle.answers.specs.Calls.{Line, _at_when_, _at-first-below_when_, _then_, Call, judgement}
-use Rattle.kinds.specs.Kinds.{entryOf, roleOf, bits}
+use Rattle.kinds.specs.Kinds.{bits, bitsAt}
 use Rattle.kinds.specs.Refusals.{layoutRefusals}
 use Rattle.warp.specs.Buffers.{wordsNeeded, entriesNeeded, packedOf}
 
@@ -23,7 +23,7 @@ matrixRefusals matrix entries words needed b =
 
 abbrev pub packCall : (kind role : ℕ) (matrix words : List ℕ) → Call (List ℕ)
 packCall k r matrix words = record {
-  refusals = layoutRefusals k r then matrixRefusals matrix (entriesNeeded k r) (length words) (wordsNeeded k r) (bits (entryOf k) (roleOf r));
+  refusals = layoutRefusals k r then matrixRefusals matrix (entriesNeeded k r) (length words) (wordsNeeded k r) (bitsAt k r);
   gives = packedOf k r matrix;
 }
 

@@ -6,7 +6,6 @@ use mathlib.Core.List.{List}
 use Prim.Native.Nat.{ℕ, _+_, _*_, _/_, _%_, _^_, _<_, _≤_}
 use native.Mathlib.Nat.{mul-le-mul-left, mod-lt, div-add-mod', div-lt-iff-lt-mul}
 use native.Mathlib.Omega.{arith}
-use borrow.Author.Tests.{ne-eqb}
 use lib.IntN.{pos, _+ℤ_, _*ℤ_}
 use lib.ListN.{length, getD}
 use Rattle.laws.specs.Bits.{combine, onesIn}
@@ -15,14 +14,17 @@ use Rattle.laws.specs.Fields.{field}
 use Rattle.laws.specs.Lists.{tab, blocks}
 use Rattle.laws.proofs.Lists.{is-tab}
 use Rattle.laws.specs.Totals.{Wraps}
-use Rattle.kinds.specs.Kinds.{kindOf, entryOf, roleOf, rows, columns, bits, words, elements}
+use Rattle.kinds.specs.Kinds.{kindOf, roleOf, bits, words, bitsAt, columnsAt, elementsAt, rowsAt, wordsAt, Legal, oneBit, integer, Arithmetic}
 use Rattle.kinds.specs.Places.{placeOf}
 use Rattle.answers.specs.Refusals.{given}
 use Rattle.kinds.specs.Answers.{placeCall, placeAnswer, findAnswer}
+use Rattle.answers.specs.Tests.{Says}
+use Rattle.answers.proofs.Words.{says}
 use Rattle.answers.proofs.Demand1.{given-when}
+use Rattle.kinds.proofs.Table.{not-one-bit}
 use Rattle.kinds.specs.Rule.{elementsOf, holderOf}
 use Rattle.kinds.proofs.Answers.{rule-placed}
-use Rattle.kinds.proofs.Table.{Legal, layoutAt, elements-are, rows-are, columns-are, bits-are, words-are, sane}
+use Rattle.kinds.proofs.Table.{layoutAt, elements-are, rows-are, columns-are, bits-are, words-are, sane}
 use Rattle.kinds.proofs.Promises as places
 use Rattle.warp.specs.Buffers.{elementAt, elementIn, unpackedOf, packedOf, wordsNeeded, entriesNeeded}
 use Rattle.warp.proofs.Elements as warp
@@ -39,25 +41,21 @@ use Rattle.step.specs.Workers.{Ready}
 use Rattle.step.proofs.Promises as steps
 
 -- 'every place': of every kind, role, lane and element that there is, the place is that of the clause in kinds/specs/Places.
-pub place-at : (k r lane i : ℕ) → 1 ≤ k → k ≤ 10 → r ≤ 2 → lane ≤ 31 → i < elements (entryOf k) (roleOf r)
+pub place-at : (k r lane i : ℕ) → Legal k r → lane ≤ 31 → i < elementsAt k r
     → placeAnswer k r lane i ≡ given (placeOf (kindOf k) (roleOf r) lane i)
 unfolding placeAnswer
-place-at k r lane i low high role l h =
+place-at k r lane i ok l h =
     given-when (placeCall k r lane i) .1
-    (λ n. n (low, high), (λ n. omega (arith, n, role), (⊎-elim (λ m. omega (arith, l, m)) (λ m. omega (arith, h, m)), tt)))
+    (λ n. n (ok .low, ok .high), (λ n. omega (arith, n, ok .role), (⊎-elim (λ m. omega (arith, l, m)) (λ m. omega (arith, h, m)), tt)))
 
 -- 'one to one, and the reverse question is answered too', for all numbers, legal or not
 pub one-to-one : (k r lane i row column : ℕ) → (placeAnswer k r lane i ≡ given (row, column)) ↔ (findAnswer k r row column ≡ given (lane, i))
 one-to-one = places.one-to-one
 
-legal : (k r : ℕ) → 1 ≤ k → k ≤ 10 → r ≤ 2 → Legal k r
-legal k r low high role = record { low = low; high = high; role = role }
-
 -- so that each row and column of the matrix is the place of one lane and element, and of no other.
-pub exactly-one : (k r : ℕ) → 1 ≤ k → k ≤ 10 → r ≤ 2 → (row column : ℕ) → row < rows (entryOf k) (roleOf r) → column < columns (entryOf k) (roleOf r)
+pub exactly-one : (k r : ℕ) → Legal k r → (row column : ℕ) → row < rowsAt k r → column < columnsAt k r
     → (z : ℕ × ℕ) × (placeAnswer k r (z .0) (z .1) ≡ given (row, column)) × ((lane i : ℕ) → placeAnswer k r lane i ≡ given (row, column) → (lane, i) ≡ z)
-exactly-one k r low high role row column hr hc =
-    let ok = legal k r low high role in
+exactly-one k r ok row column hr hc =
     let f = layoutAt k r in
     let w = sane k r ok in
     let hr′ = subst (λ (n : ℕ). row < n) (rows-are k r ok) hr in
@@ -74,100 +72,98 @@ exactly-one k r low high role row column hr hc =
         cc
 
 -- the elements before and with i lie within the lane's words
-within : (k r i : ℕ) (ok : Legal k r) → i < elements (entryOf k) (roleOf r) → layoutAt k r .bits * (i + 1) ≤ 32 * layoutAt k r .words
+within : (k r i : ℕ) (ok : Legal k r) → i < elementsAt k r → layoutAt k r .bits * (i + 1) ≤ 32 * layoutAt k r .words
 within k r i ok h =
     let f = layoutAt k r in
     let l : i + 1 ≤ elementsOf f = omega (arith, h, elements-are k r ok) in
     omega (arith, mul-le-mul-left (f .bits) l, sane k r ok .full)
 
 -- 'Elements fill a word from its low bits up, then the next word.' Of every width but 64, element i of a lane is a field of one of its 32-bit words.
-pub element-narrow : (k r : ℕ) → 1 ≤ k → k ≤ 10 → r ≤ 2 → bits (entryOf k) (roleOf r) ≢ 64
-    → (ws : List ℕ) → ((x : ℕ) → getD ws x 0 < 2 ^ 32) → (lane i : ℕ) → i < elements (entryOf k) (roleOf r)
+pub element-narrow : (k r : ℕ) → Legal k r → bitsAt k r ≢ 64
+    → (ws : List ℕ) → ((x : ℕ) → getD ws x 0 < 2 ^ 32) → (lane i : ℕ) → i < elementsAt k r
     → elementIn k r ws lane i
-    ≡ field (bits (entryOf k) (roleOf r)) (i % (32 / bits (entryOf k) (roleOf r))) (getD ws (lane * words (entryOf k) (roleOf r) + i / (32 / bits (entryOf k) (roleOf r))) 0)
-element-narrow k r low high role ne ws fit lane i h =
-    let ok = legal k r low high role in
+    ≡ field (bitsAt k r) (i % (32 / bitsAt k r)) (getD ws (lane * wordsAt k r + i / (32 / bitsAt k r)) 0)
+element-narrow k r ok ne ws fit lane i h =
     let f = layoutAt k r in
     let b = bits-are k r ok in
     let w = words-are k r ok in
     let n : f .bits ≢ 64 = λ e. ne (b ∙ e) in
     let width = sane k r ok .width in
-    subst (λ (b : ℕ). elementAt b (words (entryOf k) (roleOf r)) ws lane i ≡ field b (i % (32 / b)) (getD ws (lane * words (entryOf k) (roleOf r) + i / (32 / b)) 0)) (sym b)
+    subst (λ (b : ℕ). elementAt b (wordsAt k r) ws lane i ≡ field b (i % (32 / b)) (getD ws (lane * wordsAt k r + i / (32 / b)) 0)) (sym b)
     (subst (λ (w : ℕ). elementAt (f .bits) w ws lane i ≡ field (f .bits) (i % (32 / f .bits)) (getD ws (lane * w + i / (32 / f .bits)) 0)) (sym w)
     (warp.element-narrow (f .words) ws lane (λ j l. fit (lane * f .words + j)) (f .bits) (32 / f .bits) i (width .narrow n) (warp.pos (f .bits) width n)
     (warp.word-in (f .bits) width n i (f .words) (within k r i ok h))))
 
 -- 'A 64-bit element takes two words, low half first.'
-pub element-two : (k r : ℕ) → 1 ≤ k → k ≤ 10 → r ≤ 2 → bits (entryOf k) (roleOf r) ≡ 64
-    → (ws : List ℕ) → ((x : ℕ) → getD ws x 0 < 2 ^ 32) → (lane i : ℕ) → i < elements (entryOf k) (roleOf r)
+pub element-two : (k r : ℕ) → Legal k r → bitsAt k r ≡ 64
+    → (ws : List ℕ) → ((x : ℕ) → getD ws x 0 < 2 ^ 32) → (lane i : ℕ) → i < elementsAt k r
     → elementIn k r ws lane i
-    ≡ getD ws (lane * words (entryOf k) (roleOf r) + 2 * i + 1) 0 * 2 ^ 32 + getD ws (lane * words (entryOf k) (roleOf r) + 2 * i) 0
-element-two k r low high role e ws fit lane i h =
-    let ok = legal k r low high role in
+    ≡ getD ws (lane * wordsAt k r + 2 * i + 1) 0 * 2 ^ 32 + getD ws (lane * wordsAt k r + 2 * i) 0
+element-two k r ok e ws fit lane i h =
     let f = layoutAt k r in
     let w = words-are k r ok in
-    ap (λ (b : ℕ). elementAt b (words (entryOf k) (roleOf r)) ws lane i) e
+    ap (λ (b : ℕ). elementAt b (wordsAt k r) ws lane i) e
     ∙ subst (λ (w : ℕ). elementAt 64 w ws lane i ≡ getD ws (lane * w + 2 * i + 1) 0 * 2 ^ 32 + getD ws (lane * w + 2 * i) 0) (sym w)
     (warp.element-two (f .words) ws lane (λ j l. fit (lane * f .words + j)) i (warp.two-in (f .bits) i (f .words) (sym (bits-are k r ok) ∙ e) (within k r i ok h)))
 
 -- 'unpacked matrix': the entry at the place of an element is that element of the lane's words; a matrix buffer is row-major;
 pub unpacked-at : (k r : ℕ) (ws : List ℕ) (lane i row column : ℕ) → placeAnswer k r lane i ≡ given (row, column)
-    → getD (unpackedOf k r ws) (row * columns (entryOf k) (roleOf r) + column) 0 ≡ elementIn k r ws lane i
+    → getD (unpackedOf k r ws) (row * columnsAt k r + column) 0 ≡ elementIn k r ws lane i
 unpacked-at k r ws lane i row column e = unpacking.unpacked-at k r ws lane i (row, column) e
 
 -- and no other matrix of that length has this.
-pub unpacked-only : (k r : ℕ) → 1 ≤ k → k ≤ 10 → r ≤ 2 → (ws m : List ℕ) → length m ≡ rows (entryOf k) (roleOf r) * columns (entryOf k) (roleOf r)
-    → ((lane i row column : ℕ) → placeAnswer k r lane i ≡ given (row, column) → getD m (row * columns (entryOf k) (roleOf r) + column) 0 ≡ elementIn k r ws lane i)
+pub unpacked-only : (k r : ℕ) → Legal k r → (ws m : List ℕ) → length m ≡ rowsAt k r * columnsAt k r
+    → ((lane i row column : ℕ) → placeAnswer k r lane i ≡ given (row, column) → getD m (row * columnsAt k r + column) 0 ≡ elementIn k r ws lane i)
     → m ≡ unpackedOf k r ws
-unpacked-only k r low high role ws m n at = unpacking.unpacked-only k r (legal k r low high role) ws m n (λ lane i x e. at lane i (x .0) (x .1) e)
+unpacked-only k r ok ws m n at = unpacking.unpacked-only k r ok ws m n (λ lane i x e. at lane i (x .0) (x .1) e)
 
 -- 'packed warp': after an accepted pack each element of each lane is the entry at its place,
 pub packed-at : (k r : ℕ) (m ws : List ℕ) → packAnswer k r m ws ≡ given tt → (lane i row column : ℕ) → placeAnswer k r lane i ≡ given (row, column)
-    → elementIn k r (packedOf k r m) lane i ≡ getD m (row * columns (entryOf k) (roleOf r) + column) 0
+    → elementIn k r (packedOf k r m) lane i ≡ getD m (row * columnsAt k r + column) 0
 packed-at k r m ws a lane i row column e = packing.packed-at k r m ws a lane i (row, column) e
 
 -- and no other 32-bit words of that length have this.
-pub packed-only : (k r : ℕ) → 1 ≤ k → k ≤ 10 → r ≤ 2 → (m ws : List ℕ) → length m ≡ entriesNeeded k r → length ws ≡ wordsNeeded k r
+pub packed-only : (k r : ℕ) → Legal k r → (m ws : List ℕ) → length m ≡ entriesNeeded k r → length ws ≡ wordsNeeded k r
     → ((x : ℕ) → x < length ws → getD ws x 0 < 2 ^ 32)
-    → ((lane i row column : ℕ) → placeAnswer k r lane i ≡ given (row, column) → elementIn k r ws lane i ≡ getD m (row * columns (entryOf k) (roleOf r) + column) 0)
+    → ((lane i row column : ℕ) → placeAnswer k r lane i ≡ given (row, column) → elementIn k r ws lane i ≡ getD m (row * columnsAt k r + column) 0)
     → ws ≡ packedOf k r m
-packed-only k r low high role m ws nm nw fit at = packing.packed-only k r (legal k r low high role) m ws nm nw fit (λ lane i x e. at lane i (x .0) (x .1) e)
+packed-only k r ok m ws nm nw fit at = packing.packed-only k r ok m ws nm nw fit (λ lane i x e. at lane i (x .0) (x .1) e)
 
 -- 'Unpacking what was packed gives the matrix back'
 pub pack-unpack : (k r : ℕ) (m ws : List ℕ) → packAnswer k r m ws ≡ given tt → unpackedOf k r (packedOf k r m) ≡ m
 pack-unpack k r m ws a = packing.pack-unpack k r m ws a
 
 -- 'and packing what was unpacked the words.'
-pub unpack-pack : (k r : ℕ) → 1 ≤ k → k ≤ 10 → r ≤ 2 → (ws : List ℕ) → length ws ≡ wordsNeeded k r → ((x : ℕ) → x < length ws → getD ws x 0 < 2 ^ 32)
+pub unpack-pack : (k r : ℕ) → Legal k r → (ws : List ℕ) → length ws ≡ wordsNeeded k r → ((x : ℕ) → x < length ws → getD ws x 0 < 2 ^ 32)
     → packedOf k r (unpackedOf k r ws) ≡ ws
-unpack-pack k r low high role ws n fit = packing.unpack-pack k r (legal k r low high role) ws n fit
+unpack-pack k r ok ws n fit = packing.unpack-pack k r ok ws n fit
 
 -- 'every .. step': the words of D as a whole. No other words of D's length have the step's result at every row and column.
-pub stepped-only : (k signs mode : ℕ) → 1 ≤ k → k ≤ 5 → (a b c ws : List ℕ) → length ws ≡ wordsNeeded k 2 → ((x : ℕ) → x < length ws → getD ws x 0 < 2 ^ 32)
-    → ((row column : ℕ) → row < rows (entryOf k) (roleOf 2) → column < columns (entryOf k) (roleOf 2) → entryIn k 2 ws row column ≡ resultAt k signs mode a b c row column)
+pub stepped-only : (k signs mode : ℕ) → Arithmetic k → (a b c ws : List ℕ) → length ws ≡ wordsNeeded k 2 → ((x : ℕ) → x < length ws → getD ws x 0 < 2 ^ 32)
+    → ((row column : ℕ) → row < rowsAt k 2 → column < columnsAt k 2 → entryIn k 2 ws row column ≡ resultAt k signs mode a b c row column)
     → ws ≡ stepped k signs mode a b c
 unfolding entryIn results stepped
-stepped-only k signs mode low high a b c ws n fit at =
-    let ok = legal k 2 low (omega arith) (omega arith) in
-    let m = rows (entryOf k) (roleOf 2) in
-    let w = columns (entryOf k) (roleOf 2) in
+stepped-only k signs mode known a b c ws n fit at =
+    let ok : Legal k 2 = record { low = known .low; high = known .high; role = omega arith } in
+    let m = rowsAt k 2 in
+    let w = columnsAt k 2 in
     let size : length (unpackedOf k 2 ws) ≡ m * w = unpacked-length (layoutAt k 2) (sane k 2 ok) ws ∙ entries-needed k 2 ok in
     let some : 0 < w = subst (λ (z : ℕ). 0 < z) (sym (columns-are k 2 ok)) (columns-pos (layoutAt k 2) (sane k 2 ok)) in
-    sym (unpack-pack k 2 low (omega arith) (omega arith) ws n fit)
+    sym (unpack-pack k 2 ok ws n fit)
     ∙ ap (packedOf k 2)
     (is-tab (m * w) (blocks w (resultAt k signs mode a b c)) (unpackedOf k 2 ws) 0 size
     (λ x l. ap (λ (z : ℕ). getD (unpackedOf k 2 ws) z 0) (sym (div-add-mod' x w)) ∙ at (x / w) (x % w) (div-lt-iff-lt-mul some .1 l) (mod-lt x some)))
 
 -- 'integer step': 'D at (r, c) is C at (r, c) plus the sum over k of A(r, k) times B(k, c)', read by the sign selector. A, B, C and D are warp
 -- buffers; entryIn is the entry of a buffer's matrix.
-module _ (k signs : ℕ) (low : 2 ≤ k) (high : k ≤ 5) (signs-le : signs ≤ 3) (a b c : List ℕ) (row column : ℕ)
-    (hr : row < rows (entryOf k) (roleOf 2)) (hc : column < columns (entryOf k) (roleOf 2)) where
+module _ (k signs : ℕ) (known : Arithmetic k) (integers : Says (integer k)) (signs-le : signs ≤ 3) (a b c : List ℕ) (row column : ℕ)
+    (hr : row < rowsAt k 2) (hc : column < columnsAt k 2) where
   ready : (mode : ℕ) → mode ≤ 1 → Ready k signs mode
-  ready mode h = record { low = omega arith; high = high; signs-le = signs-le; mode-le = h; plain = λ e. absurd (omega arith) }
+  ready mode h = record { of = known; signs-le = signs-le; mode-le = h; plain = λ e. absurd (omega (arith, e, integers)) }
 
   integer-is : (mode : ℕ) → resultAt k signs mode a b c row column ≡ cellOf mode (entryIn k 2 c row column) (products k signs a b row column)
   unfolding resultAt added
-  integer-is mode = simp (ne-eqb k 1 (λ e. omega arith))
+  integer-is mode = simp (not-one-bit k integers)
 
   entry-is : (mode : ℕ) → mode ≤ 1 → entryIn k 2 (stepped k signs mode a b c) row column ≡ cellOf mode (entryIn k 2 c row column) (products k signs a b row column)
   entry-is mode h = steps.result-at k signs mode (ready mode h) a b c row column hr hc ∙ integer-is mode
@@ -202,34 +198,35 @@ module _ (k signs : ℕ) (low : 2 ≤ k) (high : k ≤ 5) (signs-le : signs ≤ 
   integer-clamped = ap int32 (entry-is 1 (omega arith)) ∙ steps.clamped (entryIn k 2 c row column) (products k signs a b row column)
 
 -- 'or one-bit step': 'In kind 1 mode 0 is xor, mode 1 is and: D is C plus the count of ones among the K combined bits, and it wraps.'
-module _ (mode : ℕ) (mode-le : mode ≤ 1) (a b c : List ℕ) (row column : ℕ) (hr : row < 8) (hc : column < 8) where
-  bit-entry-is : entryIn 1 2 (stepped 1 0 mode a b c) row column ≡ cellOf 0 (entryIn 1 2 c row column) (pos (onesIn (combinedBits 1 mode a b row column)))
+module _ (k mode : ℕ) (known : Arithmetic k) (bit : Says (oneBit k)) (mode-le : mode ≤ 1) (a b c : List ℕ) (row column : ℕ) (hr : row < rowsAt k 2) (hc : column < columnsAt k 2) where
+  bit-is : resultAt k 0 mode a b c row column ≡ cellOf 0 (entryIn k 2 c row column) (pos (onesIn (combinedBits k mode a b row column)))
   unfolding resultAt added
-  bit-entry-is =
-      let ok : Ready 1 0 mode = record { low = omega arith; high = omega arith; signs-le = omega arith; mode-le = mode-le; plain = λ e. refl } in
-      steps.result-at 1 0 mode ok a b c row column hr hc
+  bit-is = simp (says (oneBit k) .1 bit)
+
+  bit-entry-is : entryIn k 2 (stepped k 0 mode a b c) row column ≡ cellOf 0 (entryIn k 2 c row column) (pos (onesIn (combinedBits k mode a b row column)))
+  bit-entry-is = steps.result-at k 0 mode (record { of = known; signs-le = omega arith; mode-le = mode-le; plain = λ e. refl }) a b c row column hr hc ∙ bit-is
 
   pub one-bit-wrapped : Wraps
-      (int32 (entryIn 1 2 (stepped 1 0 mode a b c) row column))
-      (int32 (entryIn 1 2 c row column) +ℤ pos (onesIn (tab 128 (λ j. combine mode (entryIn 1 0 a row j) (entryIn 1 1 b j column)))))
+      (int32 (entryIn k 2 (stepped k 0 mode a b c) row column))
+      (int32 (entryIn k 2 c row column) +ℤ pos (onesIn (tab (depth k) (λ j. combine mode (entryIn k 0 a row j) (entryIn k 1 b j column)))))
   unfolding combinedBits
   one-bit-wrapped =
-      subst (λ (w : ℕ). Wraps (int32 w) (int32 (entryIn 1 2 c row column) +ℤ pos (onesIn (combinedBits 1 mode a b row column)))) (sym bit-entry-is)
-      (steps.wrapped (entryIn 1 2 c row column) (pos (onesIn (combinedBits 1 mode a b row column))))
+      subst (λ (w : ℕ). Wraps (int32 w) (int32 (entryIn k 2 c row column) +ℤ pos (onesIn (combinedBits k mode a b row column)))) (sym bit-entry-is)
+      (steps.wrapped (entryIn k 2 c row column) (pos (onesIn (combinedBits k mode a b row column))))
 
   pub one-bit-wrapped-only : (w : ℕ) → w < 2 ^ 32
-      → Wraps (int32 w) (int32 (entryIn 1 2 c row column) +ℤ pos (onesIn (tab 128 (λ j. combine mode (entryIn 1 0 a row j) (entryIn 1 1 b j column)))))
-      → w ≡ entryIn 1 2 (stepped 1 0 mode a b c) row column
+      → Wraps (int32 w) (int32 (entryIn k 2 c row column) +ℤ pos (onesIn (tab (depth k) (λ j. combine mode (entryIn k 0 a row j) (entryIn k 1 b j column)))))
+      → w ≡ entryIn k 2 (stepped k 0 mode a b c) row column
   unfolding combinedBits
-  one-bit-wrapped-only w l h = steps.wrapped-only (entryIn 1 2 c row column) w (pos (onesIn (combinedBits 1 mode a b row column))) l h ∙ sym bit-entry-is
+  one-bit-wrapped-only w l h = steps.wrapped-only (entryIn k 2 c row column) w (pos (onesIn (combinedBits k mode a b row column))) l h ∙ sym bit-entry-is
 
 -- 'Two accepted steps that agree in these agree in row r of D: no boat reaches another boat's row.'
 pub own-row : (k signs mode row : ℕ) (a a′ b b′ c c′ : List ℕ)
     → ((j : ℕ) → j < depth k → entryIn k 0 a row j ≡ entryIn k 0 a′ row j)
-    → ((j column : ℕ) → j < depth k → column < columns (entryOf k) (roleOf 2) → entryIn k 1 b j column ≡ entryIn k 1 b′ j column)
-    → ((column : ℕ) → column < columns (entryOf k) (roleOf 2) → entryIn k 2 c row column ≡ entryIn k 2 c′ row column)
-    → (d : List ℕ) → stepAnswer k signs mode (length a) (length b) (length c) (length d) ≡ given tt → row < rows (entryOf k) (roleOf 2)
-    → (column : ℕ) → column < columns (entryOf k) (roleOf 2)
+    → ((j column : ℕ) → j < depth k → column < columnsAt k 2 → entryIn k 1 b j column ≡ entryIn k 1 b′ j column)
+    → ((column : ℕ) → column < columnsAt k 2 → entryIn k 2 c row column ≡ entryIn k 2 c′ row column)
+    → (d : List ℕ) → stepAnswer k signs mode (length a) (length b) (length c) (length d) ≡ given tt → row < rowsAt k 2
+    → (column : ℕ) → column < columnsAt k 2
     → entryIn k 2 (stepped k signs mode a b c) row column ≡ entryIn k 2 (stepped k signs mode a′ b′ c′) row column
 own-row k signs mode row a a′ b b′ c c′ same-a same-b same-c d e hr column hc =
     steps.own-row k signs mode row a a′ b b′ c c′ same-a same-b same-c (length a) (length b) (length c) (length d) e hr column hc

@@ -2,12 +2,11 @@
 -- sum is the signed 32-bit number congruent to start plus all exact products modulo 2^32, in every order; with saturation, where no contribution
 -- to a place is negative or none is positive, the exact total clamped, in every order; otherwise the total clamped after each block in the order
 -- fed.' Every order is every permutation of the list; Wraps is congruence modulo 2^32. Assumes nothing.
-use mathlib.Core.Path.{_≡_, refl, sym, ap, ap₂, subst, _∙_}
+use mathlib.Core.Path.{_≡_, sym, ap, ap₂, subst, _∙_}
 use mathlib.Core.Logic.{_↔_, _⊎_}
 use mathlib.Core.List.{List, List·Permᴰ}
 use Prim.Native.Nat.{ℕ, _^_, _<_, _≤_}
 use native.Mathlib.Omega.{arith}
-use borrow.Author.Tests.{ne-eqb}
 use lib.IntN.{pos, _+ℤ_, _*ℤ_}
 use lib.ListN.{length}
 use Rattle.laws.specs.Bits.{combine, onesIn}
@@ -15,8 +14,11 @@ use Rattle.laws.specs.Integers.{value, sumZ, int32, clamp}
 use Rattle.laws.specs.Lists.{tab}
 use Rattle.laws.specs.Totals.{total, clampedEach, NoneNegative, NonePositive, Wraps}
 use Rattle.laws.proofs.Integers.{wraps-only}
-use Rattle.kinds.specs.Kinds.{entryOf, roleOf, rows, columns}
+use Rattle.kinds.specs.Kinds.{columnsAt, rowsAt, oneBit, integer}
 use Rattle.answers.specs.Refusals.{Answer, given, refusal, after}
+use Rattle.answers.specs.Tests.{Says}
+use Rattle.answers.proofs.Words.{says}
+use Rattle.kinds.proofs.Table.{not-one-bit}
 use Rattle.step.specs.Step.{entryIn, depth, half, unsignedA, unsignedB, products, combinedBits, added}
 use Rattle.step.specs.Workers.{Ready}
 use Rattle.step.proofs.Matrices.{entry-lt}
@@ -29,16 +31,16 @@ use Rattle.run.proofs.Demand.{fed-kept, accepted-all as accepted-each, sized-al
 use Rattle.run.proofs.Promises as runs
 
 -- What a block contributes to a place: the exact products, or in the one-bit form the count of ones.
-pub contribution-integer : (k signs mode : ℕ) → 2 ≤ k → (x : Block) (row column : ℕ)
+pub contribution-integer : (k signs mode : ℕ) → Says (integer k) → (x : Block) (row column : ℕ)
     → added k signs mode (x .a) (x .b) row column
     ≡ sumZ (depth k) (λ j. value (unsignedA signs) (half k) (entryIn k 0 (x .a) row j) *ℤ value (unsignedB signs) (half k) (entryIn k 1 (x .b) j column))
 unfolding added products
-contribution-integer k signs mode h x row column = simp (ne-eqb k 1 (λ e. omega arith))
+contribution-integer k signs mode h x row column = simp (not-one-bit k h)
 
-pub contribution-one-bit : (signs mode : ℕ) (x : Block) (row column : ℕ)
-    → added 1 signs mode (x .a) (x .b) row column ≡ pos (onesIn (tab 128 (λ j. combine mode (entryIn 1 0 (x .a) row j) (entryIn 1 1 (x .b) j column))))
+pub contribution-one-bit : (k signs mode : ℕ) → Says (oneBit k) → (x : Block) (row column : ℕ)
+    → added k signs mode (x .a) (x .b) row column ≡ pos (onesIn (tab (depth k) (λ j. combine mode (entryIn k 0 (x .a) row j) (entryIn k 1 (x .b) j column))))
 unfolding added combinedBits
-contribution-one-bit signs mode x row column = refl
+contribution-one-bit k signs mode h x row column = simp (says (oneBit k) .1 h)
 
 -- a newly opened run
 module _ (k signs mode : ℕ) (c : List ℕ) (opened : openAnswer k signs mode (length c) ≡ given tt) where
@@ -82,10 +84,10 @@ module _ (k signs mode : ℕ) (c : List ℕ) (opened : openAnswer k signs mode (
   no-more xs n s a b = runs.no-more k signs mode c opened xs (accepted-all xs .1 (omega arith, s)) n (length a) (length b)
 
   -- at a place of D: the start there is C's entry, and each block contributes its exact products or its bit count
-  module _ (row column : ℕ) (hr : row < rows (entryOf k) (roleOf 2)) (hc : column < columns (entryOf k) (roleOf 2)) where
+  module _ (row column : ℕ) (hr : row < rowsAt k 2) (hc : column < columnsAt k 2) where
     -- 'with wrapping (and always in the one-bit form) each sum is the signed 32-bit number congruent to start plus all exact products modulo 2^32,
     -- in every order'
-    pub wrapped-total : (mode ≡ 0) ⊎ (k ≡ 1) → (xs ys : List Block) → length xs ≤ 4096 → AllSized k xs → List·Permᴰ xs ys
+    pub wrapped-total : (mode ≡ 0) ⊎ Says (oneBit k) → (xs ys : List Block) → length xs ≤ 4096 → AllSized k xs → List·Permᴰ xs ys
         → Wraps (sumAt (fedAll (openedRun k signs mode c) ys) row column) (int32 (entryIn k 2 c row column) +ℤ total (contributions k signs mode row column xs))
     wrapped-total w xs ys n s d = runs.wrapped-total k signs mode c opened row column hr hc w xs ys (accepted-all xs .1 (n, s)) d .1
 
@@ -96,10 +98,10 @@ module _ (k signs mode : ℕ) (c : List ℕ) (opened : openAnswer k signs mode (
     below xs a =
         let s = fed-kept k signs mode ready 0 (withUsed c zeros) xs a in
         subst (λ (r : Run). entryIn (r .kind .0) 2 (usedOf (fedAll (openedRun k signs mode c) xs)) row column < 2 ^ 32) (sym (s .1))
-        (entry-lt k (ready .low) (ready .high) (usedOf (fedAll (openedRun k signs mode c) xs)) row column hr hc)
+        (entry-lt k (ready .of) (usedOf (fedAll (openedRun k signs mode c) xs)) row column hr hc)
 
     -- and no other signed 32-bit number is.
-    pub wrapped-only : (mode ≡ 0) ⊎ (k ≡ 1) → (xs ys : List Block) → length xs ≤ 4096 → AllSized k xs → List·Permᴰ xs ys
+    pub wrapped-only : (mode ≡ 0) ⊎ Says (oneBit k) → (xs ys : List Block) → length xs ≤ 4096 → AllSized k xs → List·Permᴰ xs ys
         → (w : ℕ) → w < 2 ^ 32 → Wraps (int32 w) (int32 (entryIn k 2 c row column) +ℤ total (contributions k signs mode row column xs))
         → int32 w ≡ sumAt (fedAll (openedRun k signs mode c) ys) row column
     unfolding sumAt
@@ -108,13 +110,13 @@ module _ (k signs mode : ℕ) (c : List ℕ) (opened : openAnswer k signs mode (
         ap int32 (wraps-only w _ l h ∙ sym (wraps-only _ _ (below ys (t .0)) (t .1)))
 
     -- 'with saturation, where no contribution to a place is negative or none is positive, the exact total clamped, in every order'
-    pub clamped-total : 2 ≤ k → mode ≡ 1 → (xs ys : List Block) → length xs ≤ 4096 → AllSized k xs → List·Permᴰ xs ys
+    pub clamped-total : Says (integer k) → mode ≡ 1 → (xs ys : List Block) → length xs ≤ 4096 → AllSized k xs → List·Permᴰ xs ys
         → NoneNegative (contributions k signs mode row column xs) ⊎ NonePositive (contributions k signs mode row column xs)
         → sumAt (fedAll (openedRun k signs mode c) ys) row column ≡ clamp (int32 (entryIn k 2 c row column) +ℤ total (contributions k signs mode row column xs))
     clamped-total two one xs ys n s d h = runs.clamped-total k signs mode c opened row column hr hc two one xs ys (accepted-all xs .1 (n, s)) d h .1
 
     -- 'otherwise the total clamped after each block in the order fed'
-    pub clamped-each : 2 ≤ k → mode ≡ 1 → (xs : List Block) → length xs ≤ 4096 → AllSized k xs
+    pub clamped-each : Says (integer k) → mode ≡ 1 → (xs : List Block) → length xs ≤ 4096 → AllSized k xs
         → sumAt (fedAll (openedRun k signs mode c) xs) row column ≡ clampedEach (int32 (entryIn k 2 c row column)) (contributions k signs mode row column xs)
     clamped-each two one xs n s = runs.clamped-each k signs mode c opened row column hr hc two one xs (accepted-all xs .1 (n, s))
 

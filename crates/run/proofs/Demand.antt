@@ -44,7 +44,7 @@ clamps-each w (z ∷ zs) = clamps-each (word32 (clamp (int32 w +ℤ z))) zs
 stepped-length : (k signs mode : ℕ) → Ready k signs mode → (a b c : List ℕ) → length (stepped k signs mode a b c) ≡ wordsNeeded k 2
 unfolding stepped
 stepped-length k signs mode ok a b c =
-    let l = legal k (ok .low) (ok .high) 2 (omega arith) in
+    let l = legal k (ok .of) 2 (omega arith) in
     round.packed-length (layoutAt k 2) (sane k 2 l) (results k signs mode a b c) ∙ words-needed k 2 l
 
 perm-length : {xs ys : List Block} → List·Permᴰ xs ys → length xs ≡ length ys

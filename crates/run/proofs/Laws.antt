@@ -3,15 +3,13 @@ use mathlib.Core.Path.{_≡_, sym, ap, _∙_}
 use mathlib.Core.List.{List, _++_}
 use Prim.Native.Nat.{ℕ, _+_, _-_, _*_, _≤_, _<_}
 use native.Mathlib.Omega.{arith}
-use lib.Dec.{leb, leb→le}
 use lib.ListN.{length, take, drop}
-use Rattle.laws.proofs.Every.{all-at}
 use Rattle.laws.proofs.Lists.{length-tab}
-use Rattle.kinds.specs.Kinds.{lanes, words, roleC}
+use Rattle.kinds.specs.Kinds.{lanes, words, roleC, oneBitElement, int4Element, Arithmetic}
 use Rattle.answers.specs.Refusals.{given}
 use Rattle.answers.specs.Right.{Denies, Passes}
 use Rattle.answers.proofs.Shows.{passes, passing}
-use Rattle.kinds.proofs.Table.{line}
+use Rattle.kinds.proofs.Table.{among-≤}
 use Rattle.warp.specs.Buffers.{wordsNeeded}
 use Rattle.step.specs.Step.{stepped}
 use Rattle.step.specs.Workers.{Ready}
@@ -21,8 +19,8 @@ use Rattle.run.specs.Runs.{runOf, zeros, withUsed, usedOf, fedRun}
 use Rattle.run.specs.Answers.{maxBlocks, badRun, openRefusals, feedRefusals, readRefusals, openAnswer, feedAnswer}
 
 -- the used sums of every arithmetic kind are among the 128
-pub used-le : (k : ℕ) → k ≤ 5 → wordsNeeded k 2 ≤ 128
-used-le k h = leb→le (wordsNeeded k 2) 128 (all-at 5 (λ j. leb (lanes * words (line j) roleC) 128) tt (k - 1) (omega arith))
+pub used-le : (k : ℕ) → Arithmetic k → wordsNeeded k 2 ≤ 128
+used-le k ok = among-≤ k (ok .low) (ok .high) oneBitElement int4Element (ok .is) (λ e. lanes * words e roleC) (λ e. 128) tt
 
 pub length-zeros : length zeros ≡ 128
 unfolding zeros
@@ -44,7 +42,7 @@ module _ (run : Run) where
 
   -- a run that refusal 10 lets pass has the selectors of a step, and such a run passes
   pub sound : Denies (badRun run) → Ready k (run .signs .0) (run .mode .0) × (run .blocks ≤ maxBlocks)
-  sound d = (record { low = search d; high = search d; signs-le = search d; mode-le = search d; plain = search d }, search d)
+  sound d = (record { of = record { low = search d; high = search d; is = search d }; signs-le = search d; mode-le = search d; plain = search d }, search d)
 
   pub sound-back : Ready k (run .signs .0) (run .mode .0) → run .blocks ≤ maxBlocks → Denies (badRun run)
   sound-back ok h = search (ok, h)

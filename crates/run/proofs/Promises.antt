@@ -4,18 +4,22 @@ use mathlib.Core.Path.{_≡_, refl, sym, ap, ap₂, subst, _∙_}
 use mathlib.Core.Bool.{Bool, true, false}
 use mathlib.Core.Logic.{_⊎_, inl, inr}
 use mathlib.Core.List.{List, [], _∷_, List·Permᴰ}
-use Prim.Native.Nat.{ℕ, _+_, _^_, _<_, _≤_}
+use Prim.Native.Nat.{ℕ, _+_, _^_, _<_}
 use native.Mathlib.Omega.{arith}
-use borrow.Author.Tests.{eq-eqb, ne-eqb, le-leb}
+use borrow.Author.Tests.{le-leb}
 use lib.IntN.{ℤ, _+ℤ_}
 use lib.ListN.{length, take, drop}
 use lib.Seq.{take-at}
-use Rattle.laws.specs.Choice.{if_then_else_, _=?_}
+use Rattle.laws.specs.Choice.{if_then_else_}
 use Rattle.laws.specs.Integers.{int32, clamp}
 use Rattle.laws.specs.Totals.{total, clampedEach, NoneNegative, NonePositive, Wraps}
 use Rattle.laws.proofs.Totals.{wrappedBy, clampedBy, fed-wraps, fed-up, fed-down, fed-clamped}
+use Rattle.kinds.specs.Kinds.{oneBit, integer}
 use Rattle.answers.specs.Refusals.{Answer, given, refusal, after}
 use Rattle.answers.proofs.Shows.{deny}
+use Rattle.answers.specs.Tests.{Says, holds}
+use Rattle.answers.proofs.Words.{says}
+use Rattle.kinds.proofs.Table.{not-one-bit}
 use Rattle.warp.specs.Buffers.{wordsNeeded}
 use Rattle.step.specs.Step.{entryIn, depth, limit}
 use Rattle.step.specs.Workers.{Ready}
@@ -49,7 +53,7 @@ module _ (k signs mode : ℕ) (c : List ℕ) (accepted : openAnswer k signs mode
     adds xs = contributions k signs mode row column xs
 
     from-lt : from < 2 ^ 32
-    from-lt = entry-lt k (ok .low) (ok .high) c row column hr hc
+    from-lt = entry-lt k (ok .of) c row column hr hc
 
     sum-is : (xs : List Block) → AllAccepted (openedRun k signs mode c) xs → sumAt (fedAll (openedRun k signs mode c) xs) row column ≡ int32 (fedCell (limit k mode) from (adds xs))
     unfolding sumAt openedRun
@@ -65,15 +69,15 @@ module _ (k signs mode : ℕ) (c : List ℕ) (accepted : openAnswer k signs mode
 
     -- 'With wrapping, and always in the one-bit form, each sum at the end is the signed 32-bit number that differs from start plus all the exact
     -- products, or bit counts, by a multiple of 2^32, in every order of the blocks.'
-    wrapping : (mode ≡ 0) ⊎ (k ≡ 1) → limit k mode ≡ 0
-    wrapping (inl e) = either (k =? 1)
+    wrapping : (mode ≡ 0) ⊎ Says (oneBit k) → limit k mode ≡ 0
+    wrapping (inl e) = either (holds (oneBit k))
       where
         either : (t : Bool) → (if t then 0 else mode) ≡ 0
         either true = refl
         either false = e
-    wrapping (inr e) = simp (eq-eqb k 1 e)
+    wrapping (inr e) = simp (says (oneBit k) .1 e)
 
-    pub wrapped-total : (mode ≡ 0) ⊎ (k ≡ 1) → (xs ys : List Block) → AllAccepted (openedRun k signs mode c) xs → List·Permᴰ xs ys
+    pub wrapped-total : (mode ≡ 0) ⊎ Says (oneBit k) → (xs ys : List Block) → AllAccepted (openedRun k signs mode c) xs → List·Permᴰ xs ys
         → AllAccepted (openedRun k signs mode c) ys × Wraps (sumAt (fedAll (openedRun k signs mode c) ys) row column) (int32 from +ℤ total (adds xs))
     wrapped-total w xs ys a d =
         let b = order d a in
@@ -83,9 +87,9 @@ module _ (k signs mode : ℕ) (c : List ℕ) (accepted : openAnswer k signs mode
 
     -- 'With saturation in the other kinds, where no block's contribution to a place is negative, or none is positive, it is that exact total
     -- clamped to 32 bits, again in every order.'
-    module _ (two : 2 ≤ k) (saturates : mode ≡ 1) where
+    module _ (two : Says (integer k)) (saturates : mode ≡ 1) where
       clamping : limit k mode ≡ 1
-      clamping = simp (ne-eqb k 1 (λ e. omega arith)) saturates
+      clamping = simp (not-one-bit k two) saturates
 
       each-is : (xs : List Block) → AllAccepted (openedRun k signs mode c) xs → sumAt (fedAll (openedRun k signs mode c) xs) row column ≡ int32 (clampedBy from (adds xs))
       each-is xs a = sum-is xs a ∙ ap (λ (m : ℕ). int32 (fedCell m from (adds xs))) clamping ∙ ap int32 (clamps-each from (adds xs))

@@ -3,10 +3,10 @@ use Prim.Native.Nat.{ℕ}
 use mathlib.Core.List.{List, [], _∷_}
 use lib.ListN.{length}
 use Rattle.answers.specs.Refusals.{Answer}
-use Rattle.answers.specs.Tests.{Test, over, reaches, differs, either, unless, within}
+use Rattle.answers.specs.Tests.{Test, over, reaches, differs, either}
 use Rattle.answers.specs.Calls.{Line, _when_, _at_when_, _then_, first, Call}
 use Rattle.warp.specs.Buffers.{wordsNeeded}
-use Rattle.step.specs.Answers.{badSelectors, selectorRefusals}
+use Rattle.step.specs.Answers.{unready, selectorRefusals}
 use Rattle.run.specs.Runs.{openedRun, fedRun, usedOf}
 use Rattle.run.specs.declared.Run.{Run}
 
@@ -18,12 +18,9 @@ maxBlocks = 4096
 abbrev pub fullRun : Run → Test
 fullRun run = reaches (run .blocks) maxBlocks
 
--- 10: a run's kind is not 1 to 5, its selectors break 4, or its count is over 4,096
+-- 10: a run's kind is not arithmetic (1 to 5), its selectors break 4, or its count is over 4,096
 abbrev pub badRun : Run → Test
-badRun run =
-    either
-    (either (unless (within (run .kind .0) 1 5)) (badSelectors (run .kind .0) (run .signs .0) (run .mode .0)))
-    (over (run .blocks) maxBlocks)
+badRun run = either (unready (run .kind .0) (run .signs .0) (run .mode .0)) (over (run .blocks) maxBlocks)
 
 -- by the lengths of the buffers
 abbrev pub openRefusals : (kind signs mode c : ℕ) → List Line

@@ -2,7 +2,7 @@
 -- have one pattern, by a test that antt computes, a step adds the same number at every place. Assumes nothing.
 use mathlib.Core.Path.{_≡_, sym, ap, ap₂, subst, _∙_}
 use mathlib.Core.List.{List}
-use Prim.Native.Nat.{ℕ, _+_, _*_, _<_, _≤_}
+use Prim.Native.Nat.{ℕ, _+_, _*_, _<_}
 use native.Mathlib.Omega.{arith}
 use lib.Arith.{digits-lt}
 use lib.Dec.{T, eqb, eqb→eq}
@@ -17,17 +17,18 @@ use Rattle.laws.proofs.Every.{all, all-at}
 use Rattle.laws.proofs.Fields.{joined-ext}
 use Rattle.laws.proofs.Integers.{sumZ-cong}
 use Rattle.laws.proofs.Lists.{length-tab, getD-tab, tab-ext}
-use Rattle.kinds.specs.Kinds.{lanes, entryOf, roleOf, rows, columns}
+use Rattle.kinds.specs.Kinds.{lanes, columnsAt, rowsAt, oneBit, Legal, Arithmetic}
 use Rattle.answers.specs.Refusals.{given}
 use Rattle.kinds.specs.Rule.{elementsOf, rowsOf, columnsOf, holderOf}
 use Rattle.kinds.specs.declared.Layout.{Layout}
-use Rattle.kinds.proofs.Table.{Legal, layoutAt, sane, rows-are, columns-are, words-are}
+use Rattle.kinds.proofs.Table.{layoutAt, sane, rows-are, columns-are, words-are}
 use Rattle.warp.specs.Buffers.{laneNumber, elementAt}
 use Rattle.warp.specs.Buffers.{wordsNeeded}
 use Rattle.warp.proofs.Round as round
-use Rattle.step.specs.Step.{entryIn, depth, half, unsignedA, unsignedB, products, oneBit, combinedBits, added, limit, resultAt}
+use Rattle.step.specs.Step.{entryIn, depth, half, unsignedA, unsignedB, products, combinedBits, added, limit, resultAt}
 use Rattle.cell.specs.Limits.{cellOf}
 use Rattle.step.specs.Answers.{stepAnswer}
+use Rattle.answers.specs.Tests.{holds}
 use Rattle.step.proofs.Accepted.{step-accepted}
 use Rattle.step.proofs.Matrices.{legal, entry-is}
 use Rattle.step.proofs.Promises.{result-at}
@@ -60,7 +61,7 @@ module _ (k r w : ℕ) (ok : Legal k r) where
       (subst (λ (n : ℕ). lane * f .words + j < lanes * n) (sym (words-are k r ok)) (digits-lt hl hj)))
 
   -- the entry at a legal row and column
-  entry-first : OnePattern k r w → (row column : ℕ) → row < rows (entryOf k) (roleOf r) → column < columns (entryOf k) (roleOf r) → entryIn k r (uniform k r w) row column ≡ first k r w
+  entry-first : OnePattern k r w → (row column : ℕ) → row < rowsAt k r → column < columnsAt k r → entryIn k r (uniform k r w) row column ≡ first k r w
   unfolding elementAt
   entry-first t row column hr hc =
       let hr′ : row < rowsOf f = subst (λ (n : ℕ). row < n) (rows-are k r ok) hr in
@@ -74,7 +75,7 @@ module _ (k r w : ℕ) (ok : Legal k r) where
 -- what a block adds where all patterns of A are x and all of B are y
 unfoldable pub addedAll : (kind signs mode x y : ℕ) → ℤ
 addedAll k signs mode x y =
-    if oneBit k then pos (onesIn (tab (depth k) (λ _. combine mode x y)))
+    if holds (oneBit k) then pos (onesIn (tab (depth k) (λ _. combine mode x y)))
     else sumZ (depth k) (λ _. value (unsignedA signs) (half k) x *ℤ value (unsignedB signs) (half k) y)
 
 module _ (k signs mode a b c : ℕ) (result : ℤ) where
@@ -93,18 +94,18 @@ module _ (k signs mode a b c : ℕ) (result : ℤ) where
   abbrev y : ℕ
   y = first k 1 b
 
-  module _ (low : 1 ≤ k) (high : k ≤ 5) (ta : OnePattern k 0 a) (tb : OnePattern k 1 b) (row column : ℕ)
-      (hr : row < rows (entryOf k) (roleOf 2)) (hc : column < columns (entryOf k) (roleOf 2)) where
+  module _ (ok : Arithmetic k) (ta : OnePattern k 0 a) (tb : OnePattern k 1 b) (row column : ℕ)
+      (hr : row < rowsAt k 2) (hc : column < columnsAt k 2) where
     at-A : (kk : ℕ) → kk < depth k → entryIn k 0 A row kk ≡ x
-    at-A kk h = entry-first k 0 a (legal k low high 0 (omega arith)) ta row kk hr h
+    at-A kk h = entry-first k 0 a (legal k ok 0 (omega arith)) ta row kk hr h
 
     at-B : (kk : ℕ) → kk < depth k → entryIn k 1 B kk column ≡ y
-    at-B kk h = entry-first k 1 b (legal k low high 1 (omega arith)) tb kk column h hc
+    at-B kk h = entry-first k 1 b (legal k ok 1 (omega arith)) tb kk column h hc
 
     added-is : added k signs mode A B row column ≡ addedAll k signs mode x y
     unfolding added combinedBits products addedAll
     added-is =
-        ap₂ (λ (bits : List ℕ) (s : ℤ). if oneBit k then pos (onesIn bits) else s)
+        ap₂ (λ (bits : List ℕ) (s : ℤ). if holds (oneBit k) then pos (onesIn bits) else s)
         (tab-ext (depth k) _ (λ _. combine mode x y) (λ kk h. ap₂ (combine mode) (at-A kk h) (at-B kk h)))
         (sumZ-cong (depth k) _ (λ _. value (unsignedA signs) (half k) x *ℤ value (unsignedB signs) (half k) y)
         (λ kk h. ap₂ (λ (u v : ℕ). value (unsignedA signs) (half k) u *ℤ value (unsignedB signs) (half k) v) (at-A kk h) (at-B kk h)))
@@ -126,7 +127,7 @@ module _ (k signs mode a b c : ℕ) (result : ℤ) where
         λ row column hr hc.
             ap int32
             (result-at k signs mode ok A B C row column hr hc
-            ∙ ap₂ (cellOf (limit k mode)) (entry-first k 2 c (legal k (ok .low) (ok .high) 2 (omega arith)) (t .3) row column hr hc)
-            (added-is (ok .low) (ok .high) (t .1) (t .2) row column hr hc))
+            ∙ ap₂ (cellOf (limit k mode)) (entry-first k 2 c (legal k (ok .of) 2 (omega arith)) (t .3) row column hr hc)
+            (added-is (ok .of) (t .1) (t .2) row column hr hc))
             ∙ t .4,
       )

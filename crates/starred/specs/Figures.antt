@@ -6,7 +6,7 @@ use lib.IntN.{ℤ, pos, negsuc}
 use lib.ListN.{length}
 use Rattle.laws.specs.Integers.{int32}
 use Rattle.laws.specs.Lists.{tab}
-use Rattle.kinds.specs.Kinds.{entryOf, roleOf, rows, columns}
+use Rattle.kinds.specs.Kinds.{columnsAt, rowsAt}
 use Rattle.answers.specs.Refusals.{given}
 use Rattle.kinds.specs.Answers.{placeAnswer, findAnswer}
 use Rattle.warp.specs.Buffers.{wordsNeeded}
@@ -30,7 +30,7 @@ Accepted kind signs mode a b c = stepAnswer kind signs mode (length a) (length b
 -- D has the number at every row and column
 abbrev pub Everywhere : (kind : ℕ) → (d : List ℕ) → (result : ℤ) → Type 0
 Everywhere kind d z =
-    (row column : ℕ) → row < rows (entryOf kind) (roleOf 2) → column < columns (entryOf kind) (roleOf 2) → int32 (entryIn kind 2 d row column) ≡ z
+    (row column : ℕ) → row < rowsAt kind 2 → column < columnsAt kind 2 → int32 (entryIn kind 2 d row column) ≡ z
 
 abbrev pub Steps : (kind signs mode : ℕ) → (a b c : List ℕ) → (result : ℤ) → Type 0
 Steps kind signs mode a b c z = Accepted kind signs mode a b c × Everywhere kind (stepped kind signs mode a b c) z

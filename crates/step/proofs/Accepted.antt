@@ -1,14 +1,14 @@
 -- What an accepted step tells of its numbers and lengths, and that the plain step's selectors are never refused. Assumes nothing.
 use mathlib.Core.Path.{_≡_, refl, ap}
 use mathlib.Core.Bool.{Bool, true, false, _&&_}
-use Prim.Native.Nat.{ℕ, _≤_, _<_}
-use native.Mathlib.Omega.{arith}
-use Rattle.laws.specs.Choice.{if_then_else_, _=?_}
+use Prim.Native.Nat.{ℕ}
+use Rattle.laws.specs.Choice.{if_then_else_}
 use Rattle.answers.specs.Refusals.{given, refusal}
 use Rattle.answers.specs.Tests.{holds}
 use Rattle.answers.specs.Calls.{first, judgedBy}
 use Rattle.answers.specs.Right.{Passes}
 use Rattle.answers.proofs.Shows.{passes}
+use Rattle.kinds.specs.Kinds.{oneBit}
 use Rattle.kinds.specs.Refusals.{unknownKind}
 use Rattle.step.specs.Answers.{notArithmetic, selectorRefusals, bufferRefusals, stepRefusals, plainRefusals, stepAnswer}
 use Rattle.step.specs.Workers.{Ready, Sized}
@@ -17,15 +17,10 @@ use Rattle.step.specs.Workers.{Ready, Sized}
 module _ (k signs mode : ℕ) where
   pub ready : Passes (selectorRefusals k signs mode) → Ready k signs mode
   ready p =
-      let far : 6 ≤ k → 10 < k = search p in
-      let low : ¬ (6 ≤ k) = λ l. omega (arith, far l, p) in
-      record { low = search p; high = omega arith; signs-le = search p; mode-le = search p; plain = search p }
+      record { of = record { low = search p; high = search p; is = search p }; signs-le = search p; mode-le = search p; plain = search p }
 
   pub ready-passes : Ready k signs mode → Passes (selectorRefusals k signs mode)
-  ready-passes ok =
-      let far : 6 ≤ k → 10 < k = λ l. absurd (omega (arith, l, ok .high)) in
-      let known : k ≤ 10 = omega (arith, ok .high) in
-      search (ok, far, known)
+  ready-passes ok = search ok
 
 -- the lengths of an accepted step
 pub sized : (k a b c d : ℕ) → Passes (bufferRefusals k a b c d) → Sized k a b c d
@@ -44,4 +39,4 @@ both-off false = refl
 
 pub plain-is : (k a b c d : ℕ) → judgedBy (stepRefusals k 0 0 a b c d) ≡ judgedBy (plainRefusals k a b c d)
 plain-is k a b c d =
-    ap (λ (t : Bool). if holds (unknownKind k) then refusal 1 0 else if holds (notArithmetic k) then refusal 3 0 else if t then refusal 4 0 else first (bufferRefusals k a b c d) tt) (both-off (k =? 1))
+    ap (λ (t : Bool). if holds (unknownKind k) then refusal 1 0 else if holds (notArithmetic k) then refusal 3 0 else if t then refusal 4 0 else first (bufferRefusals k a b c d) tt) (both-off (holds (oneBit k)))

@@ -1,27 +1,28 @@
 -- The entries of A, B and C by the words that hold them, and the words of D by the results at their places. Assumes nothing.
 use mathlib.Core.Path.{_≡_, sym, ap, ap₂, subst, _∙_}
 use mathlib.Core.List.{List}
-use Prim.Native.Nat.{ℕ, suc, _+_, _-_, _*_, _/_, _%_, _^_, _<_, _≤_}
+use Prim.Native.Nat.{ℕ, _+_, _-_, _*_, _/_, _%_, _^_, _<_, _≤_}
 use native.Mathlib.Nat.{div-lt-iff-lt-mul, mod-lt}
 use native.Mathlib.Omega.{arith}
 use lib.Arith.{digits-lt, digits-div, digits-mod}
-use lib.Dec.{T, leb, eqb, leb→le, eqb→eq}
+use lib.Dec.{T, leb, eqb}
 use lib.ListN.{length, getD}
 use lib.IntN.{_+ℤ_}
 use Rattle.laws.specs.Choice.{if_then_else_, _=?_}
 use Rattle.laws.specs.Integers.{int32, clamp}
 use Rattle.laws.specs.Fields.{field, joined}
 use Rattle.laws.specs.Lists.{tab, blocks}
-use Rattle.laws.proofs.Every.{all, all-at}
+use Rattle.laws.proofs.Every.{all}
 use Rattle.laws.proofs.Fields.{field-lt, field-joined}
 use Rattle.laws.proofs.Lists.{length-tab, getD-tab, tab-ext}
 use Rattle.laws.proofs.Integers.{word-lt}
-use Rattle.kinds.specs.Kinds.{lanes, entryOf, roleOf, rows, columns}
+use Rattle.kinds.specs.Kinds.{lanes, entryOf, roleOf, rows, columns, kinds, oneBitElement, int8Element, int4Element, integer, Legal, Arithmetic}
 use Rattle.kinds.specs.Rule.{sideOf, elementsOf, rowsOf, columnsOf, laneOf, elementOf, major, minor, placeIn, holderOf}
 use Rattle.kinds.specs.Workers.{Laid}
+use Rattle.answers.specs.Tests.{Says}
 use Rattle.kinds.specs.declared.Entry.{Entry}
 use Rattle.kinds.specs.declared.Layout.{Layout}
-use Rattle.kinds.proofs.Table.{Legal, line, layoutAt, sane, rows-are, columns-are}
+use Rattle.kinds.proofs.Table.{among, among-≡, among-≤, layoutAt, sane, rows-are, columns-are}
 use Rattle.warp.specs.Buffers.{index, laneNumber, elementAt, entryAt, unpackedOf, wordAt, packed}
 use Rattle.warp.specs.Buffers.{Fitting}
 use Rattle.warp.proofs.Places.{place-in}
@@ -38,78 +39,73 @@ entry-is k r ok ws row column hr hc =
     ∙ round.unpacked-entry (layoutAt k r) (sane k r ok) ws row column hr hc
 
 -- what holds of every arithmetic kind's line, by a test that antt computes
-module _ (k : ℕ) (low : 1 ≤ k) (high : k ≤ 5) where
+module _ (k : ℕ) (ok : Arithmetic k) where
   abbrev e : Entry
   e = entryOf k
 
   pub legal : (r : ℕ) → r ≤ 2 → Legal k r
-  legal r h = record { low = low; high = omega arith; role = h }
+  legal r h = record { low = ok .low; high = ok .high; role = h }
 
-  eq-test : (f g : Entry → ℕ) → T (all 5 (λ j. eqb (f (line j)) (g (line j)))) → f e ≡ g e
-  eq-test f g t = eqb→eq (f e) (g e) (all-at 5 (λ j. eqb (f (line j)) (g (line j))) t (k - 1) (omega arith))
+  eq-test : (f g : Entry → ℕ) → T (all kinds (among oneBitElement int4Element (λ e. eqb (f e) (g e)))) → f e ≡ g e
+  eq-test f g t = among-≡ k (ok .low) (ok .high) oneBitElement int4Element (ok .is) f g t
 
-  le-test : (f g : Entry → ℕ) → T (all 5 (λ j. leb (f (line j)) (g (line j)))) → f e ≤ g e
-  le-test f g t = leb→le (f e) (g e) (all-at 5 (λ j. leb (f (line j)) (g (line j))) t (k - 1) (omega arith))
+  le-test : (f g : Entry → ℕ) → T (all kinds (among oneBitElement int4Element (λ e. leb (f e) (g e)))) → f e ≤ g e
+  le-test f g t = among-≤ k (ok .low) (ok .high) oneBitElement int4Element (ok .is) f g t
 
   -- a C or D element is a word, and a lane holds a pair of them for each half of eight rows
-  pub sum-bits : e .4 ≡ 32
-  sum-bits = eq-test (λ e. e .4) (λ e. 32) tt
+  pub sum-bits : e .sums ≡ 32
+  sum-bits = eq-test (λ e. e .sums) (λ e. 32) tt
 
-  pub pairs : e .7 ≡ 2 * (e .0 / 8)
-  pairs = eq-test (λ e. e .7) (λ e. 2 * (e .0 / 8)) tt
+  pub pairs : e .c ≡ 2 * (e .m / 8)
+  pairs = eq-test (λ e. e .c) (λ e. 2 * (e .m / 8)) tt
 
-  pub one-span : e .1 / 4 / 2 ≡ 1
-  one-span = eq-test (λ e. e .1 / 4 / 2) (λ e. 1) tt
+  pub one-span : e .n / 4 / 2 ≡ 1
+  one-span = eq-test (λ e. e .n / 4 / 2) (λ e. 1) tt
 
   -- the depth is the minor numbers of A and of B
-  pub depth-is : depth k ≡ e .2 / 4 / sideOf (e .3) * 4 * sideOf (e .3)
-  depth-is = eq-test (λ e. e .2) (λ e. e .2 / 4 / sideOf (e .3) * 4 * sideOf (e .3)) tt
+  pub depth-is : depth k ≡ e .k / 4 / sideOf (e .bits) * 4 * sideOf (e .bits)
+  depth-is = eq-test (λ e. e .k) (λ e. e .k / 4 / sideOf (e .bits) * 4 * sideOf (e .bits)) tt
 
   -- D's places are rows of A and columns of B
-  pub columns-eight : e .1 / 8 * 8 ≡ 8
-  columns-eight = eq-test (λ e. e .1 / 8 * 8) (λ e. 8) tt
+  pub columns-eight : e .n / 8 * 8 ≡ 8
+  columns-eight = eq-test (λ e. e .n / 8 * 8) (λ e. 8) tt
 
-  pub columns-half : e .1 / 8 ≡ 1
-  columns-half = eq-test (λ e. e .1 / 8) (λ e. 1) tt
+  pub columns-half : e .n / 8 ≡ 1
+  columns-half = eq-test (λ e. e .n / 8) (λ e. 1) tt
 
-  pub halves-pos : 0 < e .0 / 8
-  halves-pos = le-test (λ e. 1) (λ e. e .0 / 8) tt
+  pub halves-pos : 0 < e .m / 8
+  halves-pos = le-test (λ e. 1) (λ e. e .m / 8) tt
 
-  pub words-pos : 0 < e .7
-  words-pos = le-test (λ e. 1) (λ e. e .7) tt
+  pub words-pos : 0 < e .c
+  words-pos = le-test (λ e. 1) (λ e. e .c) tt
 
   -- the digits of A and of B have room
-  pub bits-pos : 0 < e .3
-  bits-pos = le-test (λ e. 1) (λ e. e .3) tt
+  pub bits-pos : 0 < e .bits
+  bits-pos = le-test (λ e. 1) (λ e. e .bits) tt
 
-  pub bits-le : e .3 ≤ 8
-  bits-le = le-test (λ e. e .3) (λ e. 8) tt
+  pub bits-le : e .bits ≤ 8
+  bits-le = le-test (λ e. e .bits) (λ e. 8) tt
 
-  -- an integer kind's line is past the first
-  pub depth-small : 2 ≤ k → depth k ≤ 64
-  depth-small two =
-      let j : suc (k - 2) ≡ k - 1 = omega arith in
-      subst (λ (j : ℕ). line j .2 ≤ 64) j (leb→le (line (suc (k - 2)) .2) 64 (all-at 4 (λ j. leb (line (suc j) .2) 64) tt (k - 2) (omega arith)))
+  -- the integer kinds are shallow, and have two halves of eight rows
+  pub depth-small : Says (integer k) → depth k ≤ 64
+  depth-small two = among-≤ k (ok .low) (ok .high) int8Element int4Element two (λ e. e .k) (λ e. 64) tt
 
-  -- the integer kinds have two halves of eight rows
-  pub two-halves : 2 ≤ k → e .0 / 8 ≡ 2
-  two-halves two =
-      let j : suc (k - 2) ≡ k - 1 = omega arith in
-      subst (λ (j : ℕ). line j .0 / 8 ≡ 2) j (eqb→eq (line (suc (k - 2)) .0 / 8) 2 (all-at 4 (λ j. eqb (line (suc j) .0 / 8) 2) tt (k - 2) (omega arith)))
+  pub two-halves : Says (integer k) → e .m / 8 ≡ 2
+  two-halves two = among-≡ k (ok .low) (ok .high) int8Element int4Element two (λ e. e .m / 8) (λ e. 2) tt
 
-  pub room-A : e .0 / 8 * 8 * depth k ≤ 1024
-  room-A = le-test (λ e. e .0 / 8 * 8 * e .2) (λ e. 1024) tt
+  pub room-A : e .m / 8 * 8 * depth k ≤ 1024
+  room-A = le-test (λ e. e .m / 8 * 8 * e .k) (λ e. 1024) tt
 
-  pub room-B : e .1 / 8 * 8 * depth k ≤ 1024
-  room-B = le-test (λ e. e .1 / 8 * 8 * e .2) (λ e. 1024) tt
+  pub room-B : e .n / 8 * 8 * depth k ≤ 1024
+  room-B = le-test (λ e. e .n / 8 * 8 * e .k) (λ e. 1024) tt
 
   -- A and B by the words that hold them
-  pub entry-A : (ws : List ℕ) (row kk : ℕ) → row < e .0 / 8 * 8 → kk < depth k
-      → entryIn k 0 ws row kk ≡ elementAt (e .3) (e .5) ws (laneOf (sideOf (e .3)) row kk) (elementOf (sideOf (e .3)) (e .0 / 8) row kk)
+  pub entry-A : (ws : List ℕ) (row kk : ℕ) → row < e .m / 8 * 8 → kk < depth k
+      → entryIn k 0 ws row kk ≡ elementAt (e .bits) (e .a) ws (laneOf (sideOf (e .bits)) row kk) (elementOf (sideOf (e .bits)) (e .m / 8) row kk)
   entry-A ws row kk hr hk = entry-is k 0 (legal 0 (omega arith)) ws row kk hr (subst (λ (n : ℕ). kk < n) depth-is hk)
 
   pub entry-B : (ws : List ℕ) (kk column : ℕ) → kk < depth k → column < 8
-      → entryIn k 1 ws kk column ≡ elementAt (e .3) (e .6) ws (laneOf (sideOf (e .3)) column kk) (elementOf (sideOf (e .3)) (e .1 / 8) column kk)
+      → entryIn k 1 ws kk column ≡ elementAt (e .bits) (e .b) ws (laneOf (sideOf (e .bits)) column kk) (elementOf (sideOf (e .bits)) (e .n / 8) column kk)
   entry-B ws kk column hk hc = entry-is k 1 (legal 1 (omega arith)) ws kk column (subst (λ (n : ℕ). kk < n) depth-is hk) (subst (λ (n : ℕ). column < n) (sym columns-eight) hc)
 
   -- the layout of C and D
@@ -119,24 +115,24 @@ module _ (k : ℕ) (low : 1 ≤ k) (high : k ≤ 5) where
   laid : Laid f
   laid = sane k 2 (legal 2 (omega arith))
 
-  elements-words : elementsOf f ≡ e .7
-  elements-words = ap (λ (s : ℕ). s * (e .0 / 8) * 2) one-span ∙ omega (arith, pairs)
+  elements-words : elementsOf f ≡ e .c
+  elements-words = ap (λ (s : ℕ). s * (e .m / 8) * 2) one-span ∙ omega (arith, pairs)
 
   index-is : (x : ℕ × ℕ) → index (columnsOf f) x ≡ index (columns e (roleOf 2)) x
   index-is x = ap (λ (n : ℕ). index n x) (sym (columns-are k 2 (legal 2 (omega arith))))
 
-  module _ (lane i : ℕ) (hl : lane < lanes) (hi : i < e .7) where
+  module _ (lane i : ℕ) (hl : lane < lanes) (hi : i < e .c) where
     inside : i < elementsOf f
     inside = subst (λ (n : ℕ). i < n) (sym elements-words) hi
 
     -- C's entry at the place of a lane's element is the lane's word
-    pub entry-C : (ws : List ℕ) → ((x : ℕ) → getD ws x 0 < 2 ^ 32) → entryIn k 2 ws (major 2 (e .0 / 8) lane i) (minor 2 (e .0 / 8) lane i) ≡ getD ws (lane * e .7 + i) 0
+    pub entry-C : (ws : List ℕ) → ((x : ℕ) → getD ws x 0 < 2 ^ 32) → entryIn k 2 ws (major 2 (e .m / 8) lane i) (minor 2 (e .m / 8) lane i) ≡ getD ws (lane * e .c + i) 0
     unfolding entryIn elementAt laneNumber
     entry-C ws fit =
         ap (λ (n : ℕ). getD (unpackedOf k 2 ws) n 0) (sym (index-is (placeIn f lane i)))
         ∙ round.unpacked-at f laid ws lane i hl inside
-        ∙ ap (λ (b : ℕ). field b i (joined 32 (e .7) (λ k. getD ws (lane * e .7 + k) 0))) sum-bits
-        ∙ field-joined 32 (e .7) (λ k. getD ws (lane * e .7 + k) 0) (λ k h. fit (lane * e .7 + k)) i hi
+        ∙ ap (λ (b : ℕ). field b i (joined 32 (e .c) (λ k. getD ws (lane * e .c + k) 0))) sum-bits
+        ∙ field-joined 32 (e .c) (λ k. getD ws (lane * e .c + k) 0) (λ k h. fit (lane * e .c + k)) i hi
 
   -- the words of D are the results at their places
   module _ (signs mode : ℕ) (a b c : List ℕ) where
@@ -151,25 +147,25 @@ module _ (k : ℕ) (low : 1 ≤ k) (high : k ≤ 5) where
     unfolding results
     results-are = ap₂ (λ (m n : ℕ). tab (m * n) (blocks n at)) (rows-are k 2 (legal 2 (omega arith))) (columns-are k 2 (legal 2 (omega arith)))
 
-    result-at : (lane i : ℕ) → lane < lanes → i < elementsOf f → getD (results k signs mode a b c) (index (columnsOf f) (placeIn f lane i)) 0 ≡ at (major 2 (e .0 / 8) lane i) (minor 2 (e .0 / 8) lane i)
+    result-at : (lane i : ℕ) → lane < lanes → i < elementsOf f → getD (results k signs mode a b c) (index (columnsOf f) (placeIn f lane i)) 0 ≡ at (major 2 (e .m / 8) lane i) (minor 2 (e .m / 8) lane i)
     result-at lane i hl hi =
         ap (λ (xs : List ℕ). getD xs (index (columnsOf f) (placeIn f lane i)) 0) results-are
         ∙ getD-tab (rowsOf f * columnsOf f) (blocks (columnsOf f) at) (index (columnsOf f) (placeIn f lane i)) 0 (place-in f laid lane i hl hi)
         ∙ ap₂ at (digits-div (placeIn f lane i .0) (round.column-in f laid lane i hl hi)) (digits-mod (placeIn f lane i .0) (round.column-in f laid lane i hl hi))
 
-    word-is : (lane i : ℕ) → lane < lanes → i < e .7 → wordAt f (results k signs mode a b c) lane i ≡ at (major 2 (e .0 / 8) lane i) (minor 2 (e .0 / 8) lane i)
+    word-is : (lane i : ℕ) → lane < lanes → i < e .c → wordAt f (results k signs mode a b c) lane i ≡ at (major 2 (e .m / 8) lane i) (minor 2 (e .m / 8) lane i)
     unfolding wordAt
     word-is lane i hl hi =
         let entries : ℕ → ℕ = λ i. getD (results k signs mode a b c) (index (columnsOf f) (placeIn f lane i)) 0 in
         ap₂ (λ (b n : ℕ). field 32 i (joined b n entries)) sum-bits elements-words
-        ∙ field-joined 32 (e .7) entries (λ i h. subst (λ (v : ℕ). v < 2 ^ 32) (sym (result-at lane i hl (inside lane i hl h))) (result-lt _ _)) i hi
+        ∙ field-joined 32 (e .c) entries (λ i h. subst (λ (v : ℕ). v < 2 ^ 32) (sym (result-at lane i hl (inside lane i hl h))) (result-lt _ _)) i hi
         ∙ result-at lane i hl (inside lane i hl hi)
 
-    pub stepped-is : stepped k signs mode a b c ≡ tab (lanes * e .7) (blocks (e .7) (λ lane i. at (major 2 (e .0 / 8) lane i) (minor 2 (e .0 / 8) lane i)))
+    pub stepped-is : stepped k signs mode a b c ≡ tab (lanes * e .c) (blocks (e .c) (λ lane i. at (major 2 (e .m / 8) lane i) (minor 2 (e .m / 8) lane i)))
     unfolding stepped packed
     stepped-is =
-        tab-ext (lanes * e .7) (blocks (e .7) (wordAt f (results k signs mode a b c))) (blocks (e .7) (λ lane i. at (major 2 (e .0 / 8) lane i) (minor 2 (e .0 / 8) lane i)))
-        (λ x h. word-is (x / e .7) (x % e .7) (div-lt-iff-lt-mul (laid .words-pos) .1 h) (mod-lt x (laid .words-pos)))
+        tab-ext (lanes * e .c) (blocks (e .c) (wordAt f (results k signs mode a b c))) (blocks (e .c) (λ lane i. at (major 2 (e .m / 8) lane i) (minor 2 (e .m / 8) lane i)))
+        (λ x h. word-is (x / e .c) (x % e .c) (div-lt-iff-lt-mul (laid .words-pos) .1 h) (mod-lt x (laid .words-pos)))
 
     -- read as a matrix, D has the results
     results-length : length (results k signs mode a b c) ≡ rowsOf f * columnsOf f
@@ -196,4 +192,4 @@ module _ (k : ℕ) (low : 1 ≤ k) (high : k ≤ 5) where
       let l = legal 2 (omega arith) in
       let x = holderOf f (row, column) in
       subst (λ (v : ℕ). v < 2 ^ 32) (sym (entry-is k 2 l ws row column (subst (λ (n : ℕ). row < n) (rows-are k 2 l) hr) (subst (λ (n : ℕ). column < n) (columns-are k 2 l) hc)))
-      (subst (λ (b : ℕ). field b (x .1) (laneNumber (e .7) ws (x .0)) < 2 ^ 32) (sym sum-bits) (field-lt 32 (x .1) (laneNumber (e .7) ws (x .0))))
+      (subst (λ (b : ℕ). field b (x .1) (laneNumber (e .c) ws (x .0)) < 2 ^ 32) (sym sum-bits) (field-lt 32 (x .1) (laneNumber (e .c) ws (x .0))))

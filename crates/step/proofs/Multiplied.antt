@@ -1,21 +1,18 @@
 -- The sums over digits are the sums of the products of A's row and B's column. Assumes nothing.
 use mathlib.Core.Path.{_≡_, refl, sym, ap, ap₂, subst, _∙_}
-use mathlib.Core.Bool.{false}
 use mathlib.Core.List.{List}
 use Prim.Native.Nat.{ℕ, _+_, _-_, _*_, _/_, _%_, _^_, _<_, _≤_}
 use native.Mathlib.Nat.{div-lt-iff-lt-mul, mod-lt}
 use native.Mathlib.Omega.{arith}
-use borrow.Author.Tests.{ne-eqb}
 use lib.ListN.{length, getD}
-use Rattle.laws.specs.Choice.{_=?_}
 use Rattle.laws.specs.Lists.{tab, blocks}
 use Rattle.laws.proofs.Lists.{tab-ext}
-use Rattle.kinds.specs.Kinds.{lanes, entryOf}
+use Rattle.kinds.specs.Kinds.{lanes, entryOf, integer}
 use Rattle.kinds.specs.Rule.{majors, minors, major, minor}
 use Rattle.kinds.specs.Workers.{Laid, layoutsOf}
 use Rattle.kinds.specs.declared.Layouts.{Layouts}
 use Rattle.kinds.proofs.Digits.{major-lt, minor-lt}
-use Rattle.kinds.proofs.Table.{layoutAt, sane}
+use Rattle.kinds.proofs.Table.{not-one-bit, layoutAt, sane}
 use Rattle.step.specs.Step.{entryIn, depth, half, unsignedA, unsignedB, products, added, resultAt, stepped}
 use Rattle.cell.specs.Limits.{cellOf}
 use Rattle.step.specs.Workers.{Ready}
@@ -23,14 +20,15 @@ use Rattle.sums.specs.Sums.{offsetOf, digit, digitAt, offsetDot, digitsWord, di
 use Rattle.sums.specs.declared.Offsets.{Offsets}
 use Rattle.sums.proofs.OffsetDots.{element-lt, dot-digits, offset-ext}
 use Rattle.sums.proofs.Signs.{doubled}
+use Rattle.answers.specs.Tests.{Says}
 use Rattle.step.proofs.Matrices.{entry-A, entry-B, entry-C, stepped-is, legal, depth-is, depth-small, pairs, bits-pos, bits-le, columns-half, halves-pos, words-pos, room-A, room-B, two-halves}
 
-module _ (k signs mode : ℕ) (ok : Ready k signs mode) (two : 2 ≤ k) (a b c xs ys : List ℕ) (fit : (x : ℕ) → getD c x 0 < 2 ^ 32) where
+module _ (k signs mode : ℕ) (ok : Ready k signs mode) (two : Says (integer k)) (a b c xs ys : List ℕ) (fit : (x : ℕ) → getD c x 0 < 2 ^ 32) where
   abbrev β : ℕ
-  β = entryOf k .3
+  β = entryOf k .bits
 
   abbrev h : ℕ
-  h = entryOf k .0 / 8
+  h = entryOf k .m / 8
 
   abbrev n : ℕ
   n = depth k
@@ -45,57 +43,53 @@ module _ (k signs mode : ℕ) (ok : Ready k signs mode) (two : 2 ≤ k) (a b c x
   ob = offsetOf (unsignedB signs) (half k)
 
   size-is : 2 * half k ≡ 2 ^ β
-  size-is = sym (doubled β (bits-pos k (ok .low) (ok .high)))
+  size-is = sym (doubled β (bits-pos k (ok .of)))
 
   deep : (kk : ℕ) → kk < n → kk < m
-  deep kk hk = subst (λ (z : ℕ). kk < z) (depth-is k (ok .low) (ok .high)) hk
+  deep kk hk = subst (λ (z : ℕ). kk < z) (depth-is k (ok .of)) hk
 
   pattern-A : (row kk : ℕ) → row < h * 8 → kk < n → entryIn k 0 a row kk < 2 * half k
-  pattern-A row kk hr hk = rw (entry-A k (ok .low) (ok .high) a row kk hr hk, size-is) (element-lt β (entryOf k .5) a _ _)
+  pattern-A row kk hr hk = rw (entry-A k (ok .of) a row kk hr hk, size-is) (element-lt β (entryOf k .a) a _ _)
 
   pattern-B : (column kk : ℕ) → column < 8 → kk < n → entryIn k 1 b kk column < 2 * half k
-  pattern-B column kk hc hk = rw (entry-B k (ok .low) (ok .high) b kk column hk hc, size-is) (element-lt β (entryOf k .6) b _ _)
+  pattern-B column kk hc hk = rw (entry-B k (ok .of) b kk column hk hc, size-is) (element-lt β (entryOf k .b) b _ _)
 
   module _ (dx : Digits (layoutAt k 0) oa a xs) (dy : Digits (layoutAt k 1) ob b ys) where
     -- the digits are those of the entries, which are patterns
     digit-A : (row kk : ℕ) → row < h * 8 → kk < n → getD xs (row * m + kk) 0 ≡ digit (2 * half k) oa (entryIn k 0 a row kk)
     unfolding digitAt
-    digit-A row kk hr hk = dx row kk hr (deep kk hk) ∙ ap₂ (λ (s v : ℕ). digit s oa v) (sym size-is) (sym (entry-A k (ok .low) (ok .high) a row kk hr hk))
+    digit-A row kk hr hk = dx row kk hr (deep kk hk) ∙ ap₂ (λ (s v : ℕ). digit s oa v) (sym size-is) (sym (entry-A k (ok .of) a row kk hr hk))
 
     digit-B : (column kk : ℕ) → column < 8 → kk < n → getD ys (column * m + kk) 0 ≡ digit (2 * half k) ob (entryIn k 1 b kk column)
     unfolding digitAt
     digit-B column kk hc hk =
-        dy column kk (omega (arith, columns-half k (ok .low) (ok .high))) (deep kk hk)
-        ∙ ap₂ (λ (s v : ℕ). digit s ob v) (sym size-is) (sym (entry-B k (ok .low) (ok .high) b kk column hk hc))
+        dy column kk (omega (arith, columns-half k (ok .of))) (deep kk hk)
+        ∙ ap₂ (λ (s v : ℕ). digit s ob v) (sym size-is) (sym (entry-B k (ok .of) b kk column hk hc))
 
     sum-is : (row column : ℕ) → row < h * 8 → column < 8 → offsetDot oa ob m (λ kk. getD xs (row * m + kk) 0) (λ kk. getD ys (column * m + kk) 0) ≡ products k signs a b row column
     unfolding products
     sum-is row column hr hc =
-        ap (λ (z : ℕ). offsetDot oa ob z (λ kk. getD xs (row * m + kk) 0) (λ kk. getD ys (column * m + kk) 0)) (sym (depth-is k (ok .low) (ok .high)))
+        ap (λ (z : ℕ). offsetDot oa ob z (λ kk. getD xs (row * m + kk) 0) (λ kk. getD ys (column * m + kk) 0)) (sym (depth-is k (ok .of)))
         ∙ offset-ext oa ob n (λ kk. getD xs (row * m + kk) 0) (λ kk. getD ys (column * m + kk) 0) (λ kk. digit (2 * half k) oa (entryIn k 0 a row kk)) (λ kk. digit (2 * half k) ob (entryIn k 1 b kk column))
         (λ kk l. (digit-A row kk hr l, digit-B column kk hc l))
         ∙ sym (dot-digits (half k) (unsignedA signs) (unsignedB signs) n (λ kk. entryIn k 0 a row kk) (λ kk. entryIn k 1 b kk column) (λ kk l. (pattern-A row kk hr l, pattern-B column kk hc l)))
 
-    not-one : (k =? 1) ≡ false
-    not-one = ne-eqb k 1 (λ e. omega arith)
-
-    word-is : (lane i : ℕ) → lane < lanes → i < entryOf k .7 → digitsWord mode m oa ob (entryOf k .7) h xs ys c lane i ≡ resultAt k signs mode a b c (major 2 h lane i) (minor 2 h lane i)
+    word-is : (lane i : ℕ) → lane < lanes → i < entryOf k .c → digitsWord mode m oa ob (entryOf k .c) h xs ys c lane i ≡ resultAt k signs mode a b c (major 2 h lane i) (minor 2 h lane i)
     unfolding digitsWord resultAt added
     word-is lane i hl hi =
-        let o = ok .low in
-        let q = ok .high in
-        let hr = major-lt 2 h (omega arith) (halves-pos k o q) lane i hl in
-        let hc = minor-lt 2 h (omega arith) (halves-pos k o q) 1 lane i (omega (arith, pairs k o q)) in
-        rw not-one
-        (ap₂ (cellOf mode) (sym (entry-C k o q lane i hl hi c fit)) (sum-is (major 2 h lane i) (minor 2 h lane i) hr hc))
+        let o = ok .of in
+        let hr = major-lt 2 h (omega arith) (halves-pos k o) lane i hl in
+        let hc = minor-lt 2 h (omega arith) (halves-pos k o) 1 lane i (omega (arith, pairs k o)) in
+        rw (not-one-bit k two)
+        (ap₂ (cellOf mode) (sym (entry-C k o lane i hl hi c fit)) (sum-is (major 2 h lane i) (minor 2 h lane i) hr hc))
 
-    words-are : tab (lanes * entryOf k .7) (blocks (entryOf k .7) (digitsWord mode m oa ob (entryOf k .7) h xs ys c)) ≡ stepped k signs mode a b c
+    words-are : tab (lanes * entryOf k .c) (blocks (entryOf k .c) (digitsWord mode m oa ob (entryOf k .c) h xs ys c)) ≡ stepped k signs mode a b c
     words-are =
-        tab-ext (lanes * entryOf k .7) (blocks (entryOf k .7) (digitsWord mode m oa ob (entryOf k .7) h xs ys c)) (blocks (entryOf k .7) (λ lane i. resultAt k signs mode a b c (major 2 h lane i) (minor 2 h lane i)))
-        (λ x l. word-is (x / entryOf k .7) (x % entryOf k .7) (div-lt-iff-lt-mul (words-pos k (ok .low) (ok .high)) .1 l) (mod-lt x (words-pos k (ok .low) (ok .high))))
-        ∙ sym (stepped-is k (ok .low) (ok .high) signs mode a b c)
+        tab-ext (lanes * entryOf k .c) (blocks (entryOf k .c) (digitsWord mode m oa ob (entryOf k .c) h xs ys c)) (blocks (entryOf k .c) (λ lane i. resultAt k signs mode a b c (major 2 h lane i) (minor 2 h lane i)))
+        (λ x l. word-is (x / entryOf k .c) (x % entryOf k .c) (div-lt-iff-lt-mul (words-pos k (ok .of)) .1 l) (mod-lt x (words-pos k (ok .of))))
+        ∙ sym (stepped-is k (ok .of) signs mode a b c)
 
-module _ (k signs mode : ℕ) (ok : Ready k signs mode) (two : 2 ≤ k) (l : Layouts) (el : l ≡ layoutsOf k) where
+module _ (k signs mode : ℕ) (ok : Ready k signs mode) (two : Says (integer k)) (l : Layouts) (el : l ≡ layoutsOf k) where
   -- the words of D, by the layouts and the offsets that the code has
   pub multiplied : (a b c xs ys : List ℕ) (h : Offsets) → ((x : ℕ) → getD c x 0 < 2 ^ 32)
       → h .a ≡ offsetOf (unsignedA signs) (2 ^ (l .a .bits - 1)) → h .b ≡ offsetOf (unsignedB signs) (2 ^ (l .a .bits - 1))
@@ -106,21 +100,20 @@ module _ (k signs mode : ℕ) (ok : Ready k signs mode) (two : 2 ≤ k) (l : Lay
   -- what the workers ask of the layouts
   pub numbers : Laid (l .a) × Laid (l .b) × (l .a .bits ≤ 8) × (0 < l .a .bits) × (l .b .bits ≡ l .a .bits) × (majors (l .a) * minors (l .a) ≤ 1024) × (majors (l .b) * minors (l .b) ≤ 1024) × (minors (l .a) ≤ 64)
   numbers =
-      let o = ok .low in
-      let q = ok .high in
-      let d = depth-is k o q in
+      let o = ok .of in
+      let d = depth-is k o in
       rw el (
-        sane k 0 (legal k o q 0 (omega arith)),
-        sane k 1 (legal k o q 1 (omega arith)),
-        bits-le k o q,
-        bits-pos k o q,
+        sane k 0 (legal k o 0 (omega arith)),
+        sane k 1 (legal k o 1 (omega arith)),
+        bits-le k o,
+        bits-pos k o,
         refl,
-        subst (λ (n : ℕ). entryOf k .0 / 8 * 8 * n ≤ 1024) d (room-A k o q),
-        subst (λ (n : ℕ). entryOf k .1 / 8 * 8 * n ≤ 1024) d (room-B k o q),
-        omega (arith, d, depth-small k o q two),
+        subst (λ (n : ℕ). entryOf k .m / 8 * 8 * n ≤ 1024) d (room-A k o),
+        subst (λ (n : ℕ). entryOf k .n / 8 * 8 * n ≤ 1024) d (room-B k o),
+        omega (arith, d, depth-small k o two),
       )
 
-  pub summable : (h : Offsets) (c d : List ℕ) → h .a ≤ 128 → h .b ≤ 128 → length c ≡ lanes * entryOf k .7 → length d ≡ lanes * entryOf k .7 → Summable l mode h c d
+  pub summable : (h : Offsets) (c d : List ℕ) → h .a ≤ 128 → h .b ≤ 128 → length c ≡ lanes * entryOf k .c → length d ≡ lanes * entryOf k .c → Summable l mode h c d
   summable h c d ha hb lc ld =
       let n = numbers in
       record {
@@ -129,9 +122,9 @@ module _ (k signs mode : ℕ) (ok : Ready k signs mode) (two : 2 ≤ k) (l : Lay
         deep = n .7;
         offset-a = ha;
         offset-b = hb;
-        halves-pos = rw el (halves-pos k (ok .low) (ok .high));
-        halves-le = rw el (omega (arith, two-halves k (ok .low) (ok .high) two));
-        pairs = rw el (pairs k (ok .low) (ok .high));
+        halves-pos = rw el (halves-pos k (ok .of));
+        halves-le = rw el (omega (arith, two-halves k (ok .of) two));
+        pairs = rw el (pairs k (ok .of));
         of-c = lc ∙ rw el refl;
         of-d = ld ∙ rw el refl;
       }

@@ -11,10 +11,11 @@ use Rattle.laws.specs.Totals.{Wraps}
 use Rattle.laws.proofs.Integers.{sumZ-cong, wraps, wraps-only, clamp-in, clamp-past}
 use Rattle.laws.proofs.Lists.{tab-ext}
 use Rattle.laws.proofs.Totals.{clamp-word}
-use Rattle.kinds.specs.Kinds.{entryOf, roleOf, rows, columns}
+use Rattle.kinds.specs.Kinds.{columnsAt, rowsAt, oneBit}
 use Rattle.answers.specs.Refusals.{given}
+use Rattle.answers.specs.Tests.{holds}
 use Rattle.kinds.proofs.Table.{rows-are, columns-are}
-use Rattle.step.specs.Step.{entryIn, depth, half, unsignedA, unsignedB, products, combinedBits, oneBit, added, limit, resultAt, stepped}
+use Rattle.step.specs.Step.{entryIn, depth, half, unsignedA, unsignedB, products, combinedBits, added, limit, resultAt, stepped}
 use Rattle.cell.specs.Limits.{cellOf}
 use Rattle.step.specs.Answers.{stepAnswer}
 use Rattle.step.specs.Workers.{Ready}
@@ -23,17 +24,17 @@ use Rattle.step.proofs.Matrices.{legal, entry-D}
 
 -- the rows and the columns of C and D
 abbrev pub rowsD : (kind : ℕ) → ℕ
-rowsD kind = rows (entryOf kind) (roleOf 2)
+rowsD kind = rowsAt kind 2
 
 abbrev pub columnsD : (kind : ℕ) → ℕ
-columnsD kind = columns (entryOf kind) (roleOf 2)
+columnsD kind = columnsAt kind 2
 
 -- D's words, read as a matrix, have the result at every row and column.
 pub result-at : (k signs mode : ℕ) → Ready k signs mode → (a b c : List ℕ) (row column : ℕ) → row < rowsD k → column < columnsD k
     → entryIn k 2 (stepped k signs mode a b c) row column ≡ resultAt k signs mode a b c row column
 result-at k signs mode ok a b c row column hr hc =
-    let l = legal k (ok .low) (ok .high) 2 (omega arith) in
-    entry-D k (ok .low) (ok .high) signs mode a b c row column (subst (λ (n : ℕ). row < n) (rows-are k 2 l) hr) (subst (λ (n : ℕ). column < n) (columns-are k 2 l) hc)
+    let l = legal k (ok .of) 2 (omega arith) in
+    entry-D k (ok .of) signs mode a b c row column (subst (λ (n : ℕ). row < n) (rows-are k 2 l) hr) (subst (λ (n : ℕ). column < n) (columns-are k 2 l) hc)
 
 -- In mode 0 the word's signed number differs from it by a multiple of 2^32, and no other 32-bit word's does.
 pub wrapped : (c : ℕ) (exact : ℤ) → Wraps (int32 (cellOf 0 c exact)) (int32 c +ℤ exact)
@@ -71,7 +72,7 @@ module _ (k signs mode row : ℕ) (a a′ b b′ c c′ : List ℕ)
 
   pub same-added : (column : ℕ) → column < columnsD k → added k signs mode a b row column ≡ added k signs mode a′ b′ row column
   unfolding added
-  same-added column h = ap₂ (λ (bits : List ℕ) (z : ℤ). if oneBit k then pos (onesIn bits) else z) (same-bits column h) (same-products column h)
+  same-added column h = ap₂ (λ (bits : List ℕ) (z : ℤ). if holds (oneBit k) then pos (onesIn bits) else z) (same-bits column h) (same-products column h)
 
   pub own-row : (na nb nc nd : ℕ) → stepAnswer k signs mode na nb nc nd ≡ given tt → row < rowsD k → (column : ℕ) → column < columnsD k
       → entryIn k 2 (stepped k signs mode a b c) row column ≡ entryIn k 2 (stepped k signs mode a′ b′ c′) row column

@@ -3,19 +3,20 @@ use Prim.Native.Nat.{ℕ}
 use mathlib.Core.List.{List, [], _∷_}
 use lib.ListN.{length}
 use Rattle.answers.specs.Refusals.{Answer}
-use Rattle.answers.specs.Tests.{Test, over, is, differs, either, both, within}
+use Rattle.answers.specs.Tests.{Test, over, differs, either, both, unless}
 use Rattle.answers.specs.Calls.{Line, _when_, _at_when_, _then_, first, Call}
+use Rattle.kinds.specs.Kinds.{oneBit, arithmetic}
 use Rattle.kinds.specs.Refusals.{unknownKind}
 use Rattle.warp.specs.Buffers.{wordsNeeded}
 use Rattle.step.specs.Step.{stepped}
 
--- 3: kinds 6 to 10
+-- 3: a kind that is not arithmetic, 6 to 10
 abbrev pub notArithmetic : (kind : ℕ) → Test
-notArithmetic kind = within kind 6 10
+notArithmetic kind = unless (arithmetic kind)
 
--- 4: signs over 3, mode over 1, or kind 1 with signs not 0
+-- 4: signs over 3, mode over 1, or the one-bit kind with signs not 0
 abbrev pub badSelectors : (kind signs mode : ℕ) → Test
-badSelectors kind signs mode = either (either (over signs 3) (over mode 1)) (both (is kind 1) (differs signs 0))
+badSelectors kind signs mode = either (either (over signs 3) (over mode 1)) (both (oneBit kind) (differs signs 0))
 
 -- step and open: 1, 3, 4 before the rest
 abbrev pub selectorRefusals : (kind signs mode : ℕ) → List Line
@@ -24,6 +25,10 @@ selectorRefusals kind signs mode =
     ∷ 3 when notArithmetic kind
     ∷ 4 when badSelectors kind signs mode
     ∷ []
+
+-- a number that one of them refuses
+abbrev pub unready : (kind signs mode : ℕ) → Test
+unready kind signs mode = either (either (unknownKind kind) (notArithmetic kind)) (badSelectors kind signs mode)
 
 -- 5: the first wrong buffer of A, B, C, D, by their lengths
 abbrev pub bufferRefusals : (kind a b c d : ℕ) → List Line

@@ -4,24 +4,25 @@ use mathlib.Core.Bool.{Bool, _||_}
 use mathlib.Core.List.{List}
 use lib.ListN.{getD}
 use lib.IntN.{ℤ, pos, _*ℤ_}
+use Rattle.answers.specs.Tests.{holds}
 use Rattle.laws.specs.Choice.{if_then_else_, _=?_}
 use Rattle.laws.specs.Bits.{combine, onesIn}
 use Rattle.laws.specs.Integers.{value, sumZ}
 use Rattle.laws.specs.Lists.{tab, blocks}
-use Rattle.kinds.specs.Kinds.{entryOf, roleOf, rows, columns}
+use Rattle.kinds.specs.Kinds.{entryOf, columnsAt, rowsAt, oneBit}
 use Rattle.warp.specs.Buffers.{index, unpackedOf, packedOf}
 use Rattle.cell.specs.Limits.{cellOf}
 
 -- A, B, C and D in steps are warp buffers: the entry of a buffer's matrix at a row and a column.
 unfoldable pub entryIn : (kind role : ℕ) → List ℕ → (row column : ℕ) → ℕ
-entryIn kind role ws row column = getD (unpackedOf kind role ws) (index (columns (entryOf kind) (roleOf role)) (row, column)) 0
+entryIn kind role ws row column = getD (unpackedOf kind role ws) (index (columnsAt kind role) (row, column)) 0
 
 -- K, and what the sign bit of an A or B element weighs
 abbrev pub depth : (kind : ℕ) → ℕ
-depth kind = entryOf kind .2
+depth kind = entryOf kind .k
 
 abbrev pub half : (kind : ℕ) → ℕ
-half kind = 2 ^ (entryOf kind .3 - 1)
+half kind = 2 ^ (entryOf kind .bits - 1)
 
 -- The sign selector: 0 both signed (two's complement), 1 A unsigned, 2 B unsigned, 3 both unsigned.
 abbrev pub unsignedA : (signs : ℕ) → Bool
@@ -35,21 +36,18 @@ unfoldable pub products : (kind signs : ℕ) → (a b : List ℕ) → (row colum
 products kind signs a b row column =
     sumZ (depth kind) (λ k. value (unsignedA signs) (half kind) (entryIn kind 0 a row k) *ℤ value (unsignedB signs) (half kind) (entryIn kind 1 b k column))
 
--- In kind 1 mode 0 is xor, mode 1 is and: the K combined bits, of which the ones are counted.
-abbrev pub oneBit : (kind : ℕ) → Bool
-oneBit kind = kind =? 1
-
+-- In the one-bit kind mode 0 is xor, mode 1 is and: the K combined bits, of which the ones are counted.
 unfoldable pub combinedBits : (kind mode : ℕ) → (a b : List ℕ) → (row column : ℕ) → List ℕ
 combinedBits kind mode a b row column = tab (depth kind) (λ k. combine mode (entryIn kind 0 a row k) (entryIn kind 1 b k column))
 
 -- what a block adds at a place
 unfoldable pub added : (kind signs mode : ℕ) → (a b : List ℕ) → (row column : ℕ) → ℤ
 added kind signs mode a b row column =
-    if oneBit kind then pos (onesIn (combinedBits kind mode a b row column)) else products kind signs a b row column
+    if holds (oneBit kind) then pos (onesIn (combinedBits kind mode a b row column)) else products kind signs a b row column
 
 -- The one-bit form wraps in both modes.
 abbrev pub limit : (kind mode : ℕ) → ℕ
-limit kind mode = if oneBit kind then 0 else mode
+limit kind mode = if holds (oneBit kind) then 0 else mode
 
 -- D at (r, c) is C at (r, c) plus what the block adds there.
 unfoldable pub resultAt : (kind signs mode : ℕ) → (a b c : List ℕ) → (row column : ℕ) → ℕ
@@ -57,7 +55,7 @@ resultAt kind signs mode a b c row column = cellOf (limit kind mode) (entryIn ki
 
 unfoldable pub results : (kind signs mode : ℕ) → (a b c : List ℕ) → List ℕ
 results kind signs mode a b c =
-    tab (rows (entryOf kind) (roleOf 2) * columns (entryOf kind) (roleOf 2)) (blocks (columns (entryOf kind) (roleOf 2)) (resultAt kind signs mode a b c))
+    tab (rowsAt kind 2 * columnsAt kind 2) (blocks (columnsAt kind 2) (resultAt kind signs mode a b c))
 
 -- the words of D
 unfoldable pub stepped : (kind signs mode : ℕ) → (a b c : List ℕ) → List ℕ

@@ -3,7 +3,9 @@ use Prim.Native.Nat.{ℕ, _≤_}
 use mathlib.Core.Path.{_≡_}
 use mathlib.Core.List.{List}
 use lib.ListN.{length}
+use Rattle.answers.specs.Tests.{Says}
 use Rattle.answers.specs.Calls.{Call}
+use Rattle.kinds.specs.Kinds.{oneBit, Arithmetic}
 use Rattle.warp.specs.Buffers.{wordsNeeded}
 use Rattle.step.specs.Step.{stepped}
 use Rattle.step.specs.Answers.{bufferRefusals}
@@ -14,11 +16,10 @@ stepCallIn kind signs mode a b c d = record { refusals = bufferRefusals kind (le
 
 -- its numbers
 pub record Ready (kind signs mode : ℕ) : Type 0 where
-  pub low : 1 ≤ kind
-  pub high : kind ≤ 5
+  pub of : Arithmetic kind
   pub signs-le : signs ≤ 3
   pub mode-le : mode ≤ 1
-  pub plain : kind ≡ 1 → signs ≡ 0
+  pub plain : Says (oneBit kind) → signs ≡ 0
 
 -- the lengths of its A, B, C and D
 pub record Sized (kind a b c d : ℕ) : Type 0 where

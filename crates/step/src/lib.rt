@@ -1,8 +1,9 @@
-// One multiply step on warp buffers: D is C plus A times B, kinds 1 to 5.
+// One multiply step on warp buffers: D is C plus A times B, in the arithmetic kinds.
 ghost use mathlib.Core.Path.{_≡_};
 ghost use Prim.Native.Nat.{_-_, _^_, _<_, _≤_};
 ghost use lib.ListN.{length};
-ghost use Rattle.kinds.specs.Kinds.{kinds};
+ghost use Rattle.kinds.specs.Kinds.{kinds, oneBit, integer, Arithmetic};
+ghost use Rattle.answers.specs.Tests.{Says};
 ghost use Rattle.answers.specs.Contracts.{Meets, Judges};
 ghost use Rattle.step.specs.Step.{unsignedA, unsignedB, stepped};
 ghost use Rattle.step.specs.Answers.{selectorRefusals, bufferRefusals, stepCall, plainCall};
@@ -10,6 +11,7 @@ ghost use Rattle.step.specs.Workers.{stepCallIn, Ready, Sized};
 ghost use Rattle.sums.specs.Sums.{offsetOf};
 use answers::Refusal;
 use answers::Verdict;
+use kinds::Entry;
 use kinds::Kind;
 use kinds::Layouts;
 use kinds::Mode;
@@ -30,7 +32,8 @@ pub fn judge(kind: Kind, signs: Signs, mode: Mode) -> Verdict
     if Kind::COUNT < k {
         return Verdict::Refused(Refusal::UnknownKind);
     }
-    if 5 < k {
+    let element = kind.element();
+    if Entry::INT4 < element {
         return Verdict::Refused(Refusal::NotArithmetic);
     }
     if 3 < s {
@@ -39,7 +42,7 @@ pub fn judge(kind: Kind, signs: Signs, mode: Mode) -> Verdict
     if 1 < m {
         return Verdict::Refused(Refusal::BadSelectors);
     }
-    if k == 1 {
+    if element == Entry::ONE_BIT {
         if s != 0 {
             return Verdict::Refused(Refusal::BadSelectors);
         }
@@ -80,7 +83,7 @@ fn offset(unsigned: bool, bits: usize) -> u64
 
 // The integer kinds: A by rows and B by columns are unpacked once, into digits.
 fn multiply(kind: Kind, signs: Signs, mode: Mode, a: &[u32], b: &[u32], c: &[u32], d: &mut [u32])
-    requires { ⌜ Ready (kind .0) (signs .0) (mode .0) × (2 ≤ kind .0) ⌝ }
+    requires { ⌜ Ready (kind .0) (signs .0) (mode .0) × Says (integer (kind .0)) ⌝ }
     requires { ⌜ Sized (kind .0) (length (now a)) (length (now b)) (length (now c)) (length (now d)) ⌝ }
     ensures { λ _. ⌜ now (d .exit) ≡ stepped (kind .0) (signs .0) (mode .0) (now (a .entry)) (now (b .entry)) (now (c .entry)) ⌝ }
 {
@@ -102,7 +105,7 @@ fn multiply(kind: Kind, signs: Signs, mode: Mode, a: &[u32], b: &[u32], c: &[u32
 
 // The one-bit kind.
 fn count(kind: Kind, mode: Mode, a: &[u32], b: &[u32], c: &[u32], d: &mut [u32])
-    requires { ⌜ (kind .0 ≡ 1) × (mode .0 ≤ 1) ⌝ }
+    requires { ⌜ Arithmetic (kind .0) × Says (oneBit (kind .0)) × (mode .0 ≤ 1) ⌝ }
     requires { ⌜ Sized (kind .0) (length (now a)) (length (now b)) (length (now c)) (length (now d)) ⌝ }
     ensures { λ _. ⌜ now (d .exit) ≡ stepped (kind .0) 0 (mode .0) (now (a .entry)) (now (b .entry)) (now (c .entry)) ⌝ }
 {
@@ -115,8 +118,7 @@ pub fn work(kind: Kind, signs: Signs, mode: Mode, a: &[u32], b: &[u32], c: &[u32
     requires { ⌜ Sized (kind .0) (length (now a)) (length (now b)) (length (now c)) (length (now d)) ⌝ }
     ensures { λ _. ⌜ now (d .exit) ≡ stepped (kind .0) (signs .0) (mode .0) (now (a .entry)) (now (b .entry)) (now (c .entry)) ⌝ }
 {
-    let k = kind.0;
-    if k == 1 {
+    if kind.element() == Entry::ONE_BIT {
         count(kind, mode, a, b, c, d);
         return;
     }

@@ -5,10 +5,11 @@ use mathlib.Core.List.{List}
 use Prim.Native.Nat.{ℕ}
 use native.Mathlib.Omega.{arith}
 use lib.ListN.{length, getD}
+use Rattle.kinds.specs.Kinds.{Legal}
 use Rattle.laws.specs.Lists.{fills}
 use Rattle.laws.proofs.Lists.{fills-all, is-tab}
 use Rattle.kinds.specs.Workers.{Laid}
-use Rattle.kinds.proofs.Table.{Legal, layoutAt, sane}
+use Rattle.kinds.proofs.Table.{layoutAt, sane}
 use Rattle.template.specs.Templates.{templateKind, templateRole}
 
 pub copied : (xs ys : List ℕ) → length ys ≡ length xs → fills 0 (length xs) (λ k. getD xs k 0) ys ≡ xs

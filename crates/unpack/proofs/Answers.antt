@@ -3,8 +3,9 @@ use mathlib.Core.Path.{_≡_, sym, ap₂, _∙_}
 use mathlib.Core.List.{List}
 use Prim.Native.Nat.{ℕ}
 use lib.ListN.{length}
+use Rattle.kinds.specs.Kinds.{Legal}
 use Rattle.answers.specs.Calls.{first, judgement}
-use Rattle.kinds.proofs.Table.{Legal, layoutAt}
+use Rattle.kinds.proofs.Table.{layoutAt}
 use Rattle.kinds.proofs.Judged.{judged-is}
 use Rattle.warp.proofs.Placed.{words-needed, entries-needed}
 use Rattle.warp.specs.Buffers.{wordsNeeded, entriesNeeded}

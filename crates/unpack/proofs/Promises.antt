@@ -3,11 +3,11 @@ use mathlib.Core.Path.{_≡_, sym, ap, _∙_, subst}
 use mathlib.Core.List.{List}
 use Prim.Native.Nat.{ℕ, _<_}
 use lib.ListN.{length, getD}
-use Rattle.kinds.specs.Kinds.{entryOf, roleOf, rows, columns}
+use Rattle.kinds.specs.Kinds.{columnsAt, rowsAt, Legal}
 use Rattle.kinds.specs.Rule.{rowsOf, columnsOf, holderOf}
 use Rattle.answers.specs.Refusals.{given}
 use Rattle.kinds.specs.Answers.{placeAnswer}
-use Rattle.kinds.proofs.Table.{Legal, layoutAt, sane, rows-are, columns-are}
+use Rattle.kinds.proofs.Table.{layoutAt, sane, rows-are, columns-are}
 use Rattle.kinds.proofs.Answers.{rule-placed}
 use Rattle.warp.specs.Buffers.{elementIn, index, unpackedOf, entriesNeeded}
 use Rattle.warp.proofs.Placed.{indexIn, legal, placed, laid, index-is, element-is, at-rule, entries-needed}
@@ -28,9 +28,9 @@ pub unpacked-only : (k r : ℕ) → Legal k r → (ws m : List ℕ) → length m
 unpacked-only k r ok ws m n at = round.unpacked-only (layoutAt k r) (laid k r ok) ws m (n ∙ sym (entries-needed k r ok)) (at-rule k r ok ws m at)
 
 -- 'No boat reaches another boat's row': the entries of a row depend only on the elements whose places lie in that row.
-pub own-row : (k r : ℕ) → Legal k r → (ws ws′ : List ℕ) (row : ℕ) → row < rows (entryOf k) (roleOf r)
+pub own-row : (k r : ℕ) → Legal k r → (ws ws′ : List ℕ) (row : ℕ) → row < rowsAt k r
     → ((lane i column : ℕ) → placeAnswer k r lane i ≡ given (row, column) → elementIn k r ws lane i ≡ elementIn k r ws′ lane i)
-    → (column : ℕ) → column < columns (entryOf k) (roleOf r) → getD (unpackedOf k r ws) (indexIn k r (row, column)) 0 ≡ getD (unpackedOf k r ws′) (indexIn k r (row, column)) 0
+    → (column : ℕ) → column < columnsAt k r → getD (unpackedOf k r ws) (indexIn k r (row, column)) 0 ≡ getD (unpackedOf k r ws′) (indexIn k r (row, column)) 0
 own-row k r ok ws ws′ row hr same column hc =
     let f = layoutAt k r in
     let o = sane k r ok in

@@ -3,13 +3,13 @@ use mathlib.Core.Path.{_≡_, sym, ap, ap₂, _∙_}
 use mathlib.Core.List.{List}
 use Prim.Native.Nat.{ℕ, _*_, _<_}
 use lib.ListN.{getD}
-use Rattle.kinds.specs.Kinds.{lanes, entryOf, roleOf, columns}
+use Rattle.kinds.specs.Kinds.{lanes, columnsAt, Legal}
 use Rattle.kinds.specs.Rule.{elementsOf, rowsOf, columnsOf, placeIn}
 use Rattle.kinds.specs.Workers.{Laid}
 use Rattle.answers.specs.Refusals.{given}
 use Rattle.kinds.specs.Answers.{placeAnswer}
 use Rattle.kinds.specs.declared.Layout.{Layout}
-use Rattle.kinds.proofs.Table.{Legal, layoutAt, sane, rows-are, columns-are, bits-are, words-are}
+use Rattle.kinds.proofs.Table.{layoutAt, sane, rows-are, columns-are, bits-are, words-are}
 use Rattle.kinds.proofs.Answers.{placed-inside, rule-placed, place-legal}
 use Rattle.warp.specs.Buffers.{elementAt, elementIn, index, wordsNeeded, entriesNeeded}
 
@@ -22,7 +22,7 @@ module _ (k r : ℕ) (ok : Legal k r) where
 
 -- the index of a place in the matrix of a kind and a role
 abbrev pub indexIn : (kind role : ℕ) → ℕ × ℕ → ℕ
-indexIn k r x = index (columns (entryOf k) (roleOf r)) x
+indexIn k r x = index (columnsAt k r) x
 
 -- a place is the rule's, of a lane and an element that there are
 module _ (k r lane i : ℕ) (x : ℕ × ℕ) (e : placeAnswer k r lane i ≡ given x) where

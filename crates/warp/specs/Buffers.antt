@@ -4,7 +4,7 @@ use mathlib.Core.List.{List}
 use lib.ListN.{length, getD}
 use Rattle.laws.specs.Fields.{field, joined}
 use Rattle.laws.specs.Lists.{tab, blocks}
-use Rattle.kinds.specs.Kinds.{lanes, wordBits, entryOf, roleOf, rows, columns, bits, words}
+use Rattle.kinds.specs.Kinds.{lanes, wordBits, entryOf, roleOf, columns, bits, words, bitsAt, columnsAt, rowsAt, wordsAt}
 use Rattle.kinds.specs.Rule.{layoutOf, elementsOf, rowsOf, columnsOf, placeIn, holderOf}
 use Rattle.kinds.specs.declared.Layout.{Layout}
 
@@ -40,7 +40,7 @@ packed f m = tab (lanes * f .words) (blocks (f .words) (wordAt f m))
 
 -- the same of a kind and a role
 abbrev pub elementIn : (kind role : ℕ) → List ℕ → (lane i : ℕ) → ℕ
-elementIn k r ws lane i = elementAt (bits (entryOf k) (roleOf r)) (words (entryOf k) (roleOf r)) ws lane i
+elementIn k r ws lane i = elementAt (bitsAt k r) (wordsAt k r) ws lane i
 
 abbrev pub unpackedOf : (kind role : ℕ) → List ℕ → List ℕ
 unpackedOf k r ws = unpacked (layoutOf (entryOf k) (roleOf r)) ws
@@ -50,7 +50,7 @@ packedOf k r m = packed (layoutOf (entryOf k) (roleOf r)) m
 
 -- the lengths that a kind and a role need
 abbrev pub wordsNeeded : (kind role : ℕ) → ℕ
-wordsNeeded k r = lanes * words (entryOf k) (roleOf r)
+wordsNeeded k r = lanes * wordsAt k r
 
 abbrev pub entriesNeeded : (kind role : ℕ) → ℕ
-entriesNeeded k r = rows (entryOf k) (roleOf r) * columns (entryOf k) (roleOf r)
+entriesNeeded k r = rowsAt k r * columnsAt k r

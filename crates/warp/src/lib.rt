@@ -44,9 +44,9 @@ impl Lengths {
     {
         let e = Entry::of(kind);
         Lengths {
-            a: Lane::COUNT * e.5 as usize,
-            b: Lane::COUNT * e.6 as usize,
-            c: Lane::COUNT * e.7 as usize,
+            a: Lane::COUNT * e.a as usize,
+            b: Lane::COUNT * e.b as usize,
+            c: Lane::COUNT * e.c as usize,
         }
     }
 }

@@ -11,13 +11,13 @@ use Rattle.kinds.proofs.layout_in.Statement.{statement}
 use Rattle.kinds.proofs.layout_in.Tie as tie
 
 module _ (e : Entry) (r p : ℕ) where
-  as-A : r ≡ 0 → p ≡ sideOf (e .3) → spread (e .3) (e .5) p (e .0) (e .2) false ≡ layoutOf e (roleOf r)
+  as-A : r ≡ 0 → p ≡ sideOf (e .bits) → spread (e .bits) (e .a) p (e .m) (e .k) false ≡ layoutOf e (roleOf r)
   as-A n s = rw (n, s) refl
 
-  as-B : r ≡ 1 → p ≡ sideOf (e .3) → spread (e .3) (e .6) p (e .1) (e .2) true ≡ layoutOf e (roleOf r)
+  as-B : r ≡ 1 → p ≡ sideOf (e .bits) → spread (e .bits) (e .b) p (e .n) (e .k) true ≡ layoutOf e (roleOf r)
   as-B n s = rw (n, s) refl
 
-  as-C : r ≡ 2 → spread (e .4) (e .7) 2 (e .0) (e .1) false ≡ layoutOf e (roleOf r)
+  as-C : r ≡ 2 → spread (e .sums) (e .c) 2 (e .m) (e .n) false ≡ layoutOf e (roleOf r)
   as-C n = rw n refl
 
 side-of-requires : tie.Need-side-of-requires

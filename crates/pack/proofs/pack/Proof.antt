@@ -7,7 +7,7 @@ use Rattle.answers.specs.Refusals.{told, after}
 use Rattle.answers.specs.Calls.{judgement}
 use Rattle.answers.proofs.Shows.{meets}
 use Rattle.answers.proofs.Demand1.{verdict-is}
-use Rattle.kinds.specs.Kinds.{entryOf, roleOf, bits}
+use Rattle.kinds.specs.Kinds.{bitsAt}
 use Rattle.kinds.specs.declared.Layout.{Layout}
 use Rattle.kinds.proofs.Answers.{known-legal, known-sane, handed-on}
 use Rattle.warp.specs.Buffers.{packed, wordsNeeded, entriesNeeded}
@@ -51,7 +51,7 @@ returns-2 c =
     let r = s .args .role .0 in
     meets
     (handed-on _ _ _ (l .layout-of .ensures) _ (c .before .x .given .1)
-    (matrixRefusals (now (s .args .matrix)) (entriesNeeded k r) (length (now (s .args .words))) (wordsNeeded k r) (bits (entryOf k) (roleOf r))) tt)
+    (matrixRefusals (now (s .args .matrix)) (entriesNeeded k r) (length (now (s .args .words))) (wordsNeeded k r) (bitsAt k r)) tt)
     refl
 
 pub pack-spec : {M : Type 1} → statement M

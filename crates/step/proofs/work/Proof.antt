@@ -7,6 +7,9 @@ use Rattle.step.specs.Step.{stepped}
 use Rattle.step.proofs.work.Statement.{statement}
 use Rattle.step.proofs.work.Tie as tie
 
+element-requires : tie.Need-element-requires
+element-requires c κs = search needs
+
 count-requires : tie.Need-count-requires
 count-requires c κs = search needs
 
@@ -15,9 +18,10 @@ same-length c = search needs
 
 returns : tie.Need-returns
 returns c =
-    let s = c .before .before .before .before .before .before .before .before .before in
+    let e = c .before .before .before .before .before in
+    let s = e .before .before .before .before .before in
     c .before .before .count .ensures
-    ∙ ap (λ (signs : ℕ). stepped (s .args .kind .0) signs (s .args .mode .0) (now (s .args .a)) (now (s .args .b)) (now (s .args .c))) (sym (s .pre .0 .plain (c .before .before .before .before .if1 .taken)))
+    ∙ ap (λ (signs : ℕ). stepped (s .args .kind .0) signs (s .args .mode .0) (now (s .args .a)) (now (s .args .b)) (now (s .args .c))) (sym (s .pre .0 .plain (sym (e .element .ensures .0) ∙ c .before .before .before .before .if1 .taken)))
 
 multiply-requires : tie.Need-multiply-requires
 multiply-requires c κs = search needs
@@ -30,4 +34,4 @@ returns-2 c = search needs
 
 pub work-spec : {M : Type 1} → statement M
 work-spec =
-    tie.close (tie.spec count-requires same-length returns multiply-requires same-length-2 returns-2)
+    tie.close (tie.spec element-requires count-requires same-length returns multiply-requires same-length-2 returns-2)

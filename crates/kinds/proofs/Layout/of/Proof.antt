@@ -2,11 +2,11 @@
 use borrow.Author.Needs.{needs}
 use mathlib.Core.Path.{sym, ap, subst, _∙_}
 use Prim.Native.Nat.{_<_}
-use Rattle.kinds.specs.Kinds.{roleOf}
+use Rattle.kinds.specs.Kinds.{roleOf, Legal}
 use Rattle.kinds.specs.Rule.{sideOf, layoutOf}
 use Rattle.kinds.specs.Workers.{Laid}
 use Rattle.kinds.specs.declared.Entry.{Entry}
-use Rattle.kinds.proofs.Table.{Legal, bits-pos, side-pos, sane}
+use Rattle.kinds.proofs.Table.{bits-pos, side-pos, sane}
 use Rattle.kinds.proofs.Layout.of.Statement.{statement}
 use Rattle.kinds.proofs.Layout.of.Tie as tie
 
@@ -19,7 +19,7 @@ of-requires c κs = search needs
 layout-in-requires : tie.Need-layout-in-requires
 layout-in-requires c κs =
     let s = c .before in
-    (subst (λ (e : Entry). 0 < e .3) (sym (c .of .ensures)) (bits-pos _ _ (legal s)), subst (λ (e : Entry). 0 < sideOf (e .3)) (sym (c .of .ensures)) (side-pos _ _ (legal s)), s .pre .2)
+    (subst (λ (e : Entry). 0 < e .bits) (sym (c .of .ensures)) (bits-pos _ _ (legal s)), subst (λ (e : Entry). 0 < sideOf (e .bits)) (sym (c .of .ensures)) (side-pos _ _ (legal s)), s .pre .2)
 
 returns : tie.Need-returns
 returns c =

@@ -3,19 +3,19 @@ use borrow.Author.Needs.{needs}
 use mathlib.Core.Path.{_≡_, sym, subst}
 use Prim.Native.Nat.{ℕ, _<_, _≤_}
 use native.Mathlib.Omega.{arith}
-use Rattle.kinds.specs.Kinds.{roleOf, entryOf}
+use Rattle.kinds.specs.Kinds.{roleOf, entryOf, Legal}
 use Rattle.kinds.specs.Rule.{sideOf, layoutOf}
 use Rattle.kinds.specs.declared.Entry.{Entry}
 use Rattle.kinds.specs.declared.Layout.{Layout}
 use Rattle.kinds.specs.declared.Layouts.{Layouts}
-use Rattle.kinds.proofs.Table.{Legal, bits-pos, side-pos}
+use Rattle.kinds.proofs.Table.{bits-pos, side-pos}
 use Rattle.kinds.proofs.Layouts.of.Statement.{statement}
 use Rattle.kinds.proofs.Layouts.of.Tie as tie
 
-line-has : (s : tie.Start) (e : Entry) → e ≡ entryOf (s .args .kind .0) → (r : ℕ) → r ≤ 2 → (0 < e .3) × (0 < sideOf (e .3)) × (r ≤ 2)
+line-has : (s : tie.Start) (e : Entry) → e ≡ entryOf (s .args .kind .0) → (r : ℕ) → r ≤ 2 → (0 < e .bits) × (0 < sideOf (e .bits)) × (r ≤ 2)
 line-has s e p r h =
     let ok : Legal (s .args .kind .0) r = record { low = s .pre .0; high = s .pre .1; role = h } in
-    (subst (λ (e : Entry). 0 < e .3) (sym p) (bits-pos _ r ok), subst (λ (e : Entry). 0 < sideOf (e .3)) (sym p) (side-pos _ r ok), h)
+    (subst (λ (e : Entry). 0 < e .bits) (sym p) (bits-pos _ r ok), subst (λ (e : Entry). 0 < sideOf (e .bits)) (sym p) (side-pos _ r ok), h)
 
 of-requires : tie.Need-of-requires
 of-requires c κs = search needs

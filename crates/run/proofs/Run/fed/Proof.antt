@@ -23,7 +23,7 @@ module _ (c : tie.After-of) where
   is = c .of .ensures .2
 
   inside : (c .of .result .c ≤ 128) × (length (S .args .self .sums) ≡ 128)
-  inside = (omega (arith, used-le (S .args .self .kind .0) (S .pre .0 .0 .high), is), long S)
+  inside = (omega (arith, used-le (S .args .self .kind .0) (S .pre .0 .0 .of), is), long S)
 
 add-blocks : tie.Need-add-blocks
 add-blocks c = search needs

@@ -17,7 +17,7 @@ module _ (c : tie.After-shared-slice-known) where
   n = length (now (c .before .args .c))
 
   room : n ≤ 128
-  room = omega (arith, used-le (c .before .args .kind .0) (c .before .pre .0 .high), c .before .pre .1)
+  room = omega (arith, used-le (c .before .args .kind .0) (c .before .pre .0 .of), c .before .pre .1)
 
   front : length (take n zeros) ≡ n
   front = length-take-le n zeros (omega (arith, length-zeros, room))

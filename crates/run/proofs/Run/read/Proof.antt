@@ -31,7 +31,7 @@ module _ (c : tie.After-sums) where
   accepted = read-passes (S .args .self) n (admitted (c .before .before .before .judge-read .ensures) (c .before .enum-told .given .1))
 
   inside : n ≤ length (S .args .self .sums)
-  inside = omega (arith, long S, accepted, used-le (S .args .self .kind .0) (accepted .0 .high))
+  inside = omega (arith, long S, accepted, used-le (S .args .self .kind .0) (accepted .0 .of))
 
   front : length (take n (S .args .self .sums)) ≡ n
   front = length-take-le n (S .args .self .sums) inside

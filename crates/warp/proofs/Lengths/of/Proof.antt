@@ -30,7 +30,7 @@ mul-t8 c = search needs
 returns : tie.Need-returns
 returns c =
     let is = c .before .before .before .of .ensures in
-    (ap (λ (e : Entry). 32 * e .5) is, ap (λ (e : Entry). 32 * e .6) is, ap (λ (e : Entry). 32 * e .7) is)
+    (ap (λ (e : Entry). 32 * e .a) is, ap (λ (e : Entry). 32 * e .b) is, ap (λ (e : Entry). 32 * e .c) is)
 
 pub of-spec : {M : Type 1} → statement M
 of-spec = tie.close (tie.spec of-requires cast-t3 mul-t4 cast-t5 mul-t6 cast-t7 mul-t8 returns)
