@@ -2,5 +2,5 @@ pub mod Digits
 pub mod Table
 pub mod Whole
 pub mod Judged
-pub mod Answers
+pub mod ByRule
 pub mod Promises

@@ -9,7 +9,7 @@ use Rattle.answers.specs.Refusals.{Answer, given, refusal}
 use Rattle.answers.specs.Contracts.{Replies}
 use Rattle.answers.proofs.Refusals.{refusalOf, refusal-back}
 use Rattle.answers.proofs.Demand1.{no-second-reply}
-use Rattle.kinds.specs.Answers.{placeCall, placeAnswer, findCall, findAnswer, toldPlace, toldHolder}
+use Rattle.kinds.specs.PlaceCalls.{placeCall, placeAnswer, findCall, findAnswer, toldPlace, toldHolder}
 use Rattle.kinds.specs.declared.Placed.{Placed}
 use Rattle.kinds.specs.declared.Placed.the-variants.{At, Refused as Placed·Refused}
 use Rattle.kinds.specs.declared.Held.{Held}
@@ -17,7 +17,7 @@ use Rattle.kinds.specs.declared.Held.the-variants.{By, Refused as Held·
 use Rattle.kinds.proofs.Table.{layoutAt, sane}
 use Rattle.kinds.proofs.Whole.{whole-at}
 use Rattle.laws.proofs.Unique.{one-answer}
-use Rattle.kinds.proofs.Answers.{place-legal, find-legal, place-is, find-is, place-find, find-place, turn-turn}
+use Rattle.kinds.proofs.ByRule.{place-legal, find-legal, place-is, find-is, place-find, find-place, turn-turn}
 
 -- 'For each kind and role this matches lane and element to row and column one to one, and the reverse question is answered too.'
 -- For all numbers, legal or not: the place of element i of lane l is (x, y) exactly when the holder of (x, y) is element i of lane l.

@@ -2,5 +2,5 @@ pub mod Kinds
 pub mod Places
 pub mod Rule
 pub mod Refusals
-pub mod Answers
+pub mod PlaceCalls
 pub mod Workers

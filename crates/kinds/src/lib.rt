@@ -4,7 +4,7 @@ ghost use Prim.Native.Nat.{_<_, _≤_};
 ghost use Rattle.answers.specs.Contracts.{Replies};
 ghost use Rattle.kinds.specs.Kinds.{kinds, entryOf, roleOf};
 ghost use Rattle.kinds.specs.Rule.{spread, sideOf, layoutOf};
-ghost use Rattle.kinds.specs.Answers.{toldPlace, toldHolder, placeCall, findCall};
+ghost use Rattle.kinds.specs.PlaceCalls.{toldPlace, toldHolder, placeCall, findCall};
 ghost use Rattle.kinds.specs.Workers.{toldLayout, layoutCall, placeCallIn, findCallIn, layoutsOf, Laid};
 use answers::Refusal;
 

@@ -1,5 +1,5 @@
 // Reads records of four bytes from standard input and prints a line for each: the program of document 01. What it prints for
-// which bytes is `lines::put_lines`; here bytes are only moved, and what fails is said on standard error.
+// which bytes is `lookup_text::put_lines`; here bytes are only moved, and what fails is said on standard error.
 ghost use mathlib.Core.Path.{_≡_};
 ghost use Prim.Native.Nat.{_%_};
 ghost use lib.ListN.{length};
@@ -98,7 +98,7 @@ fn turn() -> bool {
     let mut output = [0u8; 65536];
     let came = read_some(&mut input);
     let n = told(came, &input);
-    let end = lines::put_lines(&input[..n], &mut output);
+    let end = lookup_text::put_lines(&input[..n], &mut output);
     if !io::write_all(STDOUT_FILENO, &output[..end]) {
         os::fail(b"lookup: standard output");
         return false;

@@ -1,3 +1,3 @@
-pub mod Answers
+pub mod ByLayout
 pub mod Promises
 pub mod Written

@@ -6,13 +6,13 @@ use lib.ListN.{length, getD}
 use Rattle.kinds.specs.Kinds.{bitsAt, Legal}
 use Rattle.kinds.specs.Rule.{columnsOf}
 use Rattle.answers.specs.Refusals.{given}
-use Rattle.kinds.specs.Answers.{placeAnswer}
+use Rattle.kinds.specs.PlaceCalls.{placeAnswer}
 use Rattle.kinds.proofs.Table.{layoutAt, bits-are}
 use Rattle.answers.proofs.Shows.{passes}
-use Rattle.warp.specs.Buffers.{elementIn, index, unpackedOf, packedOf, Fitting, wordsNeeded, entriesNeeded}
-use Rattle.warp.proofs.Placed.{indexIn, placed, laid, index-is, element-is, at-rule, words-needed, entries-needed}
-use Rattle.warp.proofs.Round as round
-use Rattle.pack.specs.Answers.{packCall, packAnswer}
+use Rattle.buffers.specs.Buffers.{elementIn, index, unpackedOf, packedOf, Fitting, wordsNeeded, entriesNeeded}
+use Rattle.buffers.proofs.Placed.{indexIn, placed, laid, index-is, element-is, at-rule, words-needed, entries-needed}
+use Rattle.buffers.proofs.Round as round
+use Rattle.pack.specs.PackCall.{packCall, packAnswer}
 
 -- An accepted call had a legal kind and role, the lengths that they need, and entries that fit.
 pub pack-accepted : (k r : ℕ) (m ws : List ℕ) → packAnswer k r m ws ≡ given tt

@@ -16,12 +16,12 @@ use Rattle.kinds.specs.Kinds.{lanes}
 use Rattle.kinds.specs.Rule.{elementsOf, rowsOf, columnsOf}
 use Rattle.kinds.specs.Workers.{Laid}
 use Rattle.kinds.specs.declared.Layout.{Layout}
-use Rattle.warp.specs.Buffers.{wordAt, packed, Fitting}
-use Rattle.warp.specs.Stretches.{sizeOf, holdingOf, stretchesOf, placeAt, WordsOfLane, stepOf}
-use Rattle.warp.proofs.Elements.{word-narrow, word-half}
-use Rattle.warp.proofs.Places.{place-in, stretch-fills}
-use Rattle.warp.proofs.Round.{packed-word}
-use Rattle.warp.proofs.Stretches.{narrow-size, wide-size, wide-element, stretches-elements, stretches-words, stretch-element, stretch-word, lane-small, narrow-at}
+use Rattle.buffers.specs.Buffers.{wordAt, packed, Fitting}
+use Rattle.buffers.specs.Stretches.{sizeOf, holdingOf, stretchesOf, placeAt, WordsOfLane, stepOf}
+use Rattle.buffers.proofs.Elements.{word-narrow, word-half}
+use Rattle.buffers.proofs.Places.{place-in, stretch-fills}
+use Rattle.buffers.proofs.Round.{packed-word}
+use Rattle.buffers.proofs.Stretches.{narrow-size, wide-size, wide-element, stretches-elements, stretches-words, stretch-element, stretch-word, lane-small, narrow-at}
 use Rattle.pack.specs.Workers.{Packs}
 
 -- the words of a lane's stretch by the entries at its places

@@ -8,8 +8,8 @@ use Rattle.kinds.specs.Kinds.{lanes}
 use Rattle.kinds.specs.Rule.{rowsOf, columnsOf}
 use Rattle.kinds.specs.Workers.{Laid}
 use Rattle.kinds.specs.declared.Layout.{Layout}
-use Rattle.warp.specs.Buffers.{packed, Fitting}
-use Rattle.pack.specs.Answers.{matrixRefusals}
+use Rattle.buffers.specs.Buffers.{packed, Fitting}
+use Rattle.pack.specs.PackCall.{matrixRefusals}
 
 -- the call in a layout
 abbrev pub packCallIn : Layout → (matrix words : List ℕ) → Call (List ℕ)

@@ -9,19 +9,19 @@ ghost use Rattle.kinds.specs.Rule.{rowsOf, columnsOf};
 ghost use Rattle.kinds.specs.Workers.{Laid};
 ghost use Rattle.answers.specs.Tests.{firstOf};
 ghost use Rattle.answers.specs.Contracts.{Meets};
-ghost use Rattle.warp.specs.Buffers.{wordAt, packed, Fitting};
-ghost use Rattle.warp.specs.Stretches.{stretchesOf, holdingOf, WordsOfQuad};
+ghost use Rattle.buffers.specs.Buffers.{wordAt, packed, Fitting};
+ghost use Rattle.buffers.specs.Stretches.{stretchesOf, holdingOf, WordsOfQuad};
 ghost use Rattle.pack.specs.Workers.{packCallIn, Packs};
-ghost use Rattle.pack.specs.Answers.{tooWide, packCall};
+ghost use Rattle.pack.specs.PackCall.{tooWide, packCall};
 use answers::Refusal;
 use answers::Verdict;
+use buffers::Quad;
+use buffers::Stretch;
 use kinds::Kind;
 use kinds::Known;
 use kinds::Lane;
 use kinds::Layout;
 use kinds::Role;
-use warp::Quad;
-use warp::Stretch;
 
 // The number whose fields are so many entries from base on, step apart.
 fn gather(matrix: &[u64], bits: usize, base: usize, step: usize, count: usize) -> u64
@@ -46,10 +46,10 @@ fn write_lane(matrix: &[u64], part: &mut [u32], f: Layout, stretch: Stretch, lan
     requires { ⌜ (stretch .0 < stretchesOf f) × (lane .0 < lanes) ⌝ }
     ensures { λ _. ⌜ now (part .exit) ≡ stores (stretch .0 * holdingOf f) 1 (holdingOf f) (λ k. wordAt f (now (matrix .entry)) (lane .0) (stretch .0 * holdingOf f + k)) (now (part .entry)) ⌝ }
 {
-    let base = warp::base_of(f, stretch, lane);
+    let base = buffers::base_of(f, stretch, lane);
     let r = stretch.0;
     if f.bits < 32 {
-        let step = warp::step_of(f);
+        let step = buffers::step_of(f);
         part[r] = gather(matrix, f.bits, base, step, f.side) as u32;
         return;
     }
@@ -88,7 +88,7 @@ pub fn fill_words(matrix: &[u64], words: &mut [u32], f: Layout)
     requires { ⌜ Packs f (now matrix) (now words) ⌝ }
     ensures { λ _. ⌜ now (words .exit) ≡ packed f (now (matrix .entry)) ⌝ }
 {
-    for stretch in 0..warp::stretches_in(f) {
+    for stretch in 0..buffers::stretches_in(f) {
         put_quads(matrix, words, f, Stretch(stretch));
     }
 }
@@ -115,8 +115,8 @@ fn pack_in(f: Layout, matrix: &[u64], words: &mut [u32]) -> Verdict
 {
     let each = f.words;
     let bits = f.bits;
-    let rows = warp::rows_in(f);
-    let columns = warp::columns_in(f);
+    let rows = buffers::rows_in(f);
+    let columns = buffers::columns_in(f);
     if matrix.len() != rows * columns {
         return Verdict::Refused(Refusal::WrongLength(0));
     }

@@ -14,14 +14,14 @@ use Rattle.answers.specs.declared.Refusal.{Refusal}
 use Rattle.answers.specs.declared.Verdict.{Verdict}
 use Rattle.answers.specs.declared.Verdict.the-variants.{Accepted, Refused}
 use Rattle.answers.proofs.Demand1 as every
-use Rattle.kinds.specs.Answers.{placeCall, findCall}
-use Rattle.unpack.specs.Answers.{unpackCall}
-use Rattle.pack.specs.Answers.{packCall}
+use Rattle.kinds.specs.PlaceCalls.{placeCall, findCall}
+use Rattle.unpack.specs.UnpackCall.{unpackCall}
+use Rattle.pack.specs.PackCall.{packCall}
 use Rattle.template.specs.Templates.{readCall as recordReadCall, writeCall as recordWriteCall}
-use Rattle.step.specs.Answers.{stepCall, plainCall}
+use Rattle.step.specs.StepCalls.{stepCall, plainCall}
 use Rattle.run.specs.declared.Run.{Run}
-use Rattle.run.specs.Answers.{openCall, feedCall, readCall}
-use Rattle.scale.specs.Answers.{scaleCall}
+use Rattle.run.specs.RunCalls.{openCall, feedCall, readCall}
+use Rattle.scale.specs.ScaleCall.{scaleCall}
 use Rattle.promises.specs.Calls.{OfBench}
 
 module _ {X : Type 0} {call : Call X} (asked : OfBench X call) where

@@ -17,26 +17,26 @@ use Rattle.laws.specs.Totals.{Wraps}
 use Rattle.kinds.specs.Kinds.{kindOf, roleOf, bits, words, bitsAt, columnsAt, elementsAt, rowsAt, wordsAt, Legal, oneBit, integer, Arithmetic}
 use Rattle.kinds.specs.Places.{placeOf}
 use Rattle.answers.specs.Refusals.{given}
-use Rattle.kinds.specs.Answers.{placeCall, placeAnswer, findAnswer}
+use Rattle.kinds.specs.PlaceCalls.{placeCall, placeAnswer, findAnswer}
 use Rattle.answers.specs.Tests.{Says}
 use Rattle.answers.proofs.Words.{says}
 use Rattle.answers.proofs.Demand1.{given-when}
 use Rattle.kinds.proofs.Table.{not-one-bit}
 use Rattle.kinds.specs.Rule.{elementsOf, holderOf}
-use Rattle.kinds.proofs.Answers.{rule-placed}
+use Rattle.kinds.proofs.ByRule.{rule-placed}
 use Rattle.kinds.proofs.Table.{layoutAt, elements-are, rows-are, columns-are, bits-are, words-are, sane}
 use Rattle.kinds.proofs.Promises as places
-use Rattle.warp.specs.Buffers.{elementAt, elementIn, unpackedOf, packedOf, wordsNeeded, entriesNeeded}
-use Rattle.warp.proofs.Elements as warp
-use Rattle.warp.proofs.Placed.{entries-needed}
-use Rattle.warp.proofs.Places.{columns-pos}
-use Rattle.warp.proofs.Round.{lane-in, element-in, place-back, unpacked-length}
+use Rattle.buffers.specs.Buffers.{elementAt, elementIn, unpackedOf, packedOf, wordsNeeded, entriesNeeded}
+use Rattle.buffers.proofs.Elements as warp
+use Rattle.buffers.proofs.Placed.{entries-needed}
+use Rattle.buffers.proofs.Places.{columns-pos}
+use Rattle.buffers.proofs.Round.{lane-in, element-in, place-back, unpacked-length}
 use Rattle.unpack.proofs.Promises as unpacking
-use Rattle.pack.specs.Answers.{packAnswer}
+use Rattle.pack.specs.PackCall.{packAnswer}
 use Rattle.pack.proofs.Promises as packing
-use Rattle.step.specs.Step.{entryIn, depth, half, unsignedA, unsignedB, products, combinedBits, added, resultAt, results, stepped}
-use Rattle.cell.specs.Limits.{cellOf}
-use Rattle.step.specs.Answers.{stepAnswer}
+use Rattle.step.specs.Step.{entryIn, depth, signWeight, unsignedA, unsignedB, products, combinedBits, added, resultAt, results, stepped}
+use Rattle.step_limit.specs.Limits.{cellOf}
+use Rattle.step.specs.StepCalls.{stepAnswer}
 use Rattle.step.specs.Workers.{Ready}
 use Rattle.step.proofs.Promises as steps
 
@@ -172,7 +172,7 @@ module _ (k signs : ℕ) (known : Arithmetic k) (integers : Says (integer k)) (s
   pub integer-wrapped : Wraps
       (int32 (entryIn k 2 (stepped k signs 0 a b c) row column))
       (int32 (entryIn k 2 c row column)
-      +ℤ sumZ (depth k) (λ j. value (unsignedA signs) (half k) (entryIn k 0 a row j) *ℤ value (unsignedB signs) (half k) (entryIn k 1 b j column)))
+      +ℤ sumZ (depth k) (λ j. value (unsignedA signs) (signWeight k) (entryIn k 0 a row j) *ℤ value (unsignedB signs) (signWeight k) (entryIn k 1 b j column)))
   unfolding products
   integer-wrapped =
       subst (λ (w : ℕ). Wraps (int32 w) (int32 (entryIn k 2 c row column) +ℤ products k signs a b row column)) (sym (entry-is 0 (omega arith)))
@@ -183,7 +183,7 @@ module _ (k signs : ℕ) (known : Arithmetic k) (integers : Says (integer k)) (s
       → Wraps
       (int32 w)
       (int32 (entryIn k 2 c row column)
-      +ℤ sumZ (depth k) (λ j. value (unsignedA signs) (half k) (entryIn k 0 a row j) *ℤ value (unsignedB signs) (half k) (entryIn k 1 b j column)))
+      +ℤ sumZ (depth k) (λ j. value (unsignedA signs) (signWeight k) (entryIn k 0 a row j) *ℤ value (unsignedB signs) (signWeight k) (entryIn k 1 b j column)))
       → w ≡ entryIn k 2 (stepped k signs 0 a b c) row column
   unfolding products
   integer-wrapped-only w l h = steps.wrapped-only (entryIn k 2 c row column) w (products k signs a b row column) l h ∙ sym (entry-is 0 (omega arith))
@@ -193,7 +193,7 @@ module _ (k signs : ℕ) (known : Arithmetic k) (integers : Says (integer k)) (s
       int32 (entryIn k 2 (stepped k signs 1 a b c) row column)
       ≡ clamp
       (int32 (entryIn k 2 c row column)
-      +ℤ sumZ (depth k) (λ j. value (unsignedA signs) (half k) (entryIn k 0 a row j) *ℤ value (unsignedB signs) (half k) (entryIn k 1 b j column)))
+      +ℤ sumZ (depth k) (λ j. value (unsignedA signs) (signWeight k) (entryIn k 0 a row j) *ℤ value (unsignedB signs) (signWeight k) (entryIn k 1 b j column)))
   unfolding products
   integer-clamped = ap int32 (entry-is 1 (omega arith)) ∙ steps.clamped (entryIn k 2 c row column) (products k signs a b row column)
 

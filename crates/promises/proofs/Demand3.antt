@@ -19,12 +19,12 @@ use Rattle.answers.specs.Refusals.{Answer, given, refusal, after}
 use Rattle.answers.specs.Tests.{Says}
 use Rattle.answers.proofs.Words.{says}
 use Rattle.kinds.proofs.Table.{not-one-bit}
-use Rattle.step.specs.Step.{entryIn, depth, half, unsignedA, unsignedB, products, combinedBits, added}
+use Rattle.step.specs.Step.{entryIn, depth, signWeight, unsignedA, unsignedB, products, combinedBits, added}
 use Rattle.step.specs.Workers.{Ready}
 use Rattle.step.proofs.Matrices.{entry-lt}
 use Rattle.run.specs.declared.Run.{Run}
 use Rattle.run.specs.Runs.{zeros, withUsed, usedOf, openedRun}
-use Rattle.run.specs.Answers.{openAnswer, feedAnswer, readAnswer}
+use Rattle.run.specs.RunCalls.{openAnswer, feedAnswer, readAnswer}
 use Rattle.run.specs.Blocks.{Block, fedAll, AllAccepted, AllSized, acceptedOf, contributions, sumAt}
 use Rattle.run.proofs.Laws.{open-accepted}
 use Rattle.run.proofs.Demand.{fed-kept, accepted-all as accepted-each, sized-all}
@@ -33,7 +33,7 @@ use Rattle.run.proofs.Promises as runs
 -- What a block contributes to a place: the exact products, or in the one-bit form the count of ones.
 pub contribution-integer : (k signs mode : ℕ) → Says (integer k) → (x : Block) (row column : ℕ)
     → added k signs mode (x .a) (x .b) row column
-    ≡ sumZ (depth k) (λ j. value (unsignedA signs) (half k) (entryIn k 0 (x .a) row j) *ℤ value (unsignedB signs) (half k) (entryIn k 1 (x .b) j column))
+    ≡ sumZ (depth k) (λ j. value (unsignedA signs) (signWeight k) (entryIn k 0 (x .a) row j) *ℤ value (unsignedB signs) (signWeight k) (entryIn k 1 (x .b) j column))
 unfolding added products
 contribution-integer k signs mode h x row column = simp (not-one-bit k h)
 

@@ -3,14 +3,14 @@ use Prim.Native.Nat.{ℕ}
 use mathlib.Core.List.{List}
 use lib.IntN.{ℤ}
 use Rattle.answers.specs.Calls.{Call}
-use Rattle.kinds.specs.Answers.{placeCall, findCall}
-use Rattle.unpack.specs.Answers.{unpackCall}
-use Rattle.pack.specs.Answers.{packCall}
+use Rattle.kinds.specs.PlaceCalls.{placeCall, findCall}
+use Rattle.unpack.specs.UnpackCall.{unpackCall}
+use Rattle.pack.specs.PackCall.{packCall}
 use Rattle.template.specs.Templates.{readCall as recordReadCall, writeCall as recordWriteCall}
-use Rattle.step.specs.Answers.{stepCall, plainCall}
+use Rattle.step.specs.StepCalls.{stepCall, plainCall}
 use Rattle.run.specs.declared.Run.{Run}
-use Rattle.run.specs.Answers.{openCall, feedCall, readCall}
-use Rattle.scale.specs.Answers.{scaleCall}
+use Rattle.run.specs.RunCalls.{openCall, feedCall, readCall}
+use Rattle.scale.specs.ScaleCall.{scaleCall}
 
 -- a call with what it leaves or gives back: a row and a column, a lane and an element, a buffer, a run, or a buffer and the run
 pub data OfBench : (X : Type 0) → Call X → Type 1 where

@@ -11,17 +11,17 @@ use Rattle.laws.specs.Integers.{int32, word32, clamp}
 use Rattle.laws.proofs.Totals.{wrappedBy, clampedBy}
 use Rattle.answers.specs.Refusals.{Answer, given, after}
 use Rattle.kinds.proofs.Table.{layoutAt, sane}
-use Rattle.warp.specs.Buffers.{wordsNeeded}
-use Rattle.warp.proofs.Placed.{words-needed}
-use Rattle.warp.proofs.Round as round
+use Rattle.buffers.specs.Buffers.{wordsNeeded}
+use Rattle.buffers.proofs.Placed.{words-needed}
+use Rattle.buffers.proofs.Round as round
 use Rattle.step.specs.Step.{entryIn, added, limit, resultAt, results, stepped}
-use Rattle.cell.specs.Limits.{cellOf}
+use Rattle.step_limit.specs.Limits.{cellOf}
 use Rattle.step.specs.Workers.{Ready}
 use Rattle.step.proofs.Matrices.{legal}
 use Rattle.step.proofs.Promises.{rowsD, columnsD, result-at}
 use Rattle.run.specs.declared.Run.{Run}
 use Rattle.run.specs.Runs.{runOf, withUsed, usedOf, fedRun}
-use Rattle.run.specs.Answers.{feedAnswer}
+use Rattle.run.specs.RunCalls.{feedAnswer}
 use Rattle.run.specs.Blocks.{Block, fedBy, fedAll, AllAccepted, Sized, AllSized, contributions}
 use Rattle.run.proofs.Laws.{feed-accepted, feed-accepts}
 

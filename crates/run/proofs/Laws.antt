@@ -10,13 +10,13 @@ use Rattle.answers.specs.Refusals.{given}
 use Rattle.answers.specs.Right.{Denies, Passes}
 use Rattle.answers.proofs.Shows.{passes, passing}
 use Rattle.kinds.proofs.Table.{among-≤}
-use Rattle.warp.specs.Buffers.{wordsNeeded}
+use Rattle.buffers.specs.Buffers.{wordsNeeded}
 use Rattle.step.specs.Step.{stepped}
 use Rattle.step.specs.Workers.{Ready}
 use Rattle.step.proofs.Accepted.{ready}
 use Rattle.run.specs.declared.Run.{Run}
 use Rattle.run.specs.Runs.{runOf, zeros, withUsed, usedOf, fedRun}
-use Rattle.run.specs.Answers.{maxBlocks, badRun, openRefusals, feedRefusals, readRefusals, openAnswer, feedAnswer}
+use Rattle.run.specs.RunCalls.{maxBlocks, badRun, openRefusals, feedRefusals, readRefusals, openAnswer, feedAnswer}
 
 -- the used sums of every arithmetic kind are among the 128
 pub used-le : (k : ℕ) → Arithmetic k → wordsNeeded k 2 ≤ 128

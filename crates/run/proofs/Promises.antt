@@ -20,14 +20,14 @@ use Rattle.answers.proofs.Shows.{deny}
 use Rattle.answers.specs.Tests.{Says, holds}
 use Rattle.answers.proofs.Words.{says}
 use Rattle.kinds.proofs.Table.{not-one-bit}
-use Rattle.warp.specs.Buffers.{wordsNeeded}
+use Rattle.buffers.specs.Buffers.{wordsNeeded}
 use Rattle.step.specs.Step.{entryIn, depth, limit}
 use Rattle.step.specs.Workers.{Ready}
 use Rattle.step.proofs.Matrices.{entry-lt}
 use Rattle.step.proofs.Promises.{rowsD, columnsD, same-added}
 use Rattle.run.specs.declared.Run.{Run}
 use Rattle.run.specs.Runs.{runOf, zeros, withUsed, usedOf, openedRun, fedRun}
-use Rattle.run.specs.Answers.{badRun, openAnswer, feedAnswer}
+use Rattle.run.specs.RunCalls.{badRun, openAnswer, feedAnswer}
 use Rattle.run.specs.Blocks.{Block, fedBy, fedAll, AllAccepted, kept, acceptedOf, contributions, sumAt}
 use Rattle.run.proofs.Laws.{open-accepted, sound-back}
 use Rattle.run.proofs.Demand.{fedCell, wraps-each, clamps-each, fed-at, fed-kept, accepted-order, added-perm}

@@ -6,11 +6,11 @@ use lib.IntN.{ℤ}
 use lib.ListN.{length}
 use Rattle.laws.specs.Integers.{int32}
 use Rattle.answers.specs.Refusals.{Answer, given, refusal, after}
-use Rattle.warp.specs.Buffers.{wordsNeeded}
+use Rattle.buffers.specs.Buffers.{wordsNeeded}
 use Rattle.step.specs.Step.{entryIn, added}
 use Rattle.run.specs.declared.Run.{Run}
 use Rattle.run.specs.Runs.{usedOf, fedRun}
-use Rattle.run.specs.Answers.{feedAnswer}
+use Rattle.run.specs.RunCalls.{feedAnswer}
 
 -- a block: an A and a B buffer
 pub record Block : Type 0 where

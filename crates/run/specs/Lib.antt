@@ -1,3 +1,3 @@
 pub mod Runs
-pub mod Answers
+pub mod RunCalls
 pub mod Blocks

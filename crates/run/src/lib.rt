@@ -5,16 +5,16 @@ ghost use lib.ListN.{length};
 ghost use mathlib.Core.List.{[], _∷_};
 ghost use Rattle.answers.specs.Calls.{_when_};
 ghost use Rattle.answers.specs.Contracts.{Meets, Judges};
-ghost use Rattle.warp.specs.Buffers.{wordsNeeded};
+ghost use Rattle.buffers.specs.Buffers.{wordsNeeded};
 ghost use Rattle.step.specs.Workers.{Ready};
 ghost use Rattle.run.specs.Runs.{openedRun, zeroRun, fedRun};
-ghost use Rattle.run.specs.Answers.{maxBlocks, badRun, openRefusals, feedRefusals, readRefusals, openCall, feedCall, readCall};
+ghost use Rattle.run.specs.RunCalls.{maxBlocks, badRun, openRefusals, feedRefusals, readRefusals, openCall, feedCall, readCall};
 use answers::Refusal;
 use answers::Verdict;
+use buffers::Lengths;
 use kinds::Kind;
 use kinds::Mode;
 use kinds::Signs;
-use warp::Lengths;
 
 pub struct Run {
     pub kind: Kind,
@@ -25,21 +25,9 @@ pub struct Run {
 }
 
 // A run handed back with the answer of the call.
-pub struct Fed {
+pub struct Handed {
     pub run: Run,
     pub verdict: Verdict,
-}
-
-// Every word of one buffer into another of its length.
-pub fn copy(from: &[u32], to: &mut [u32])
-    requires { ⌜ length (now from) ≡ length (now to) ⌝ }
-    ensures { λ _. ⌜ now (to .exit) ≡ now (from .entry) ⌝ }
-{
-    let mut i = 0;
-    while i < from.len() {
-        to[i] = from[i];
-        i += 1;
-    }
 }
 
 impl Run {
@@ -52,7 +40,7 @@ impl Run {
     {
         let n = c.len();
         let mut sums: [u32; 128] = [0; 128];
-        copy(c, &mut sums[..n]);
+        buffers::copy(c, &mut sums[..n]);
         Run {
             kind,
             signs,
@@ -77,16 +65,16 @@ impl Run {
     }
 
     // A run whose sums are C's words.
-    pub fn open(kind: Kind, signs: Signs, mode: Mode, c: &[u32]) -> Fed
+    pub fn open(kind: Kind, signs: Signs, mode: Mode, c: &[u32]) -> Handed
         ensures { λ r. ⌜ Meets (openCall (kind .0) (signs .0) (mode .0) (now (c .entry))) zeroRun (r .verdict) (r .run) ⌝ }
     {
         let verdict = Run::judge_open(kind, signs, mode, c.len());
         match verdict {
-            Verdict::Accepted => Fed {
+            Verdict::Accepted => Handed {
                 run: Run::opened(kind, signs, mode, c),
                 verdict,
             },
-            Verdict::Refused(_) => Fed {
+            Verdict::Refused(_) => Handed {
                 run: Run {
                     kind: Kind(0),
                     signs: Signs(0),
@@ -164,16 +152,16 @@ impl Run {
     }
 
     // The run with one block more.
-    pub fn feed(self, a: &[u32], b: &[u32]) -> Fed
+    pub fn feed(self, a: &[u32], b: &[u32]) -> Handed
         ensures { λ r. ⌜ Meets (feedCall self (now (a .entry)) (now (b .entry))) self (r .verdict) (r .run) ⌝ }
     {
         let verdict = self.judge_feed(a.len(), b.len());
         match verdict {
-            Verdict::Accepted => Fed {
+            Verdict::Accepted => Handed {
                 run: self.fed(a, b),
                 verdict,
             },
-            Verdict::Refused(_) => Fed { run: self, verdict },
+            Verdict::Refused(_) => Handed { run: self, verdict },
         }
     }
 
@@ -193,16 +181,16 @@ impl Run {
     }
 
     // The used sums, into D; the run is as it was.
-    pub fn read(self, d: &mut [u32]) -> Fed
+    pub fn read(self, d: &mut [u32]) -> Handed
         ensures { λ r. ⌜ Meets (readCall self (now (d .entry))) (now (d .entry), self) (r .verdict) (now (d .exit), r .run) ⌝ }
     {
         let n = d.len();
         let verdict = self.judge_read(n);
         let Verdict::Accepted = verdict else {
-            return Fed { run: self, verdict };
+            return Handed { run: self, verdict };
         };
         let sums = self.sums;
-        copy(&sums[..n], d);
-        Fed { run: self, verdict }
+        buffers::copy(&sums[..n], d);
+        Handed { run: self, verdict }
     }
 }

@@ -12,7 +12,7 @@ use Rattle.answers.specs.Refusals.{refusal}
 use Rattle.answers.specs.Calls.{judgedBy}
 use Rattle.answers.specs.Tests.{Says}
 use Rattle.scale.specs.Bytes.{legalThreadId, takes, chosenLanes, byteOf, chosenBytes, exponent, scaled, outputLength}
-use Rattle.scale.specs.Answers.{scaleRefusals}
+use Rattle.scale.specs.ScaleCall.{scaleRefusals}
 use Rattle.scale.proofs.Laws.{same-bytes, scaled-length}
 
 -- Two metadata buffers that agree in the chosen bytes give the same output: no other byte matters.

@@ -7,7 +7,7 @@ ghost use Rattle.answers.specs.Tests.{Says};
 ghost use Rattle.answers.specs.Contracts.{Tells, Judges, Meets};
 ghost use Rattle.laws.specs.Lists.{fills};
 ghost use Rattle.scale.specs.Bytes.{legalSize, legalSide, legalByteId, legalThreadId, chosenLanes, byteOf, exponent, scaled, outputLength};
-ghost use Rattle.scale.specs.Answers.{scaleRefusals, scaleCall};
+ghost use Rattle.scale.specs.ScaleCall.{scaleRefusals, scaleCall};
 ghost use Rattle.scale.specs.Legal.{Legal};
 use answers::Refusal;
 use answers::Verdict;

@@ -10,7 +10,7 @@ use Rattle.answers.specs.Right.{Passes}
 use Rattle.answers.proofs.Shows.{passes}
 use Rattle.kinds.specs.Kinds.{oneBit}
 use Rattle.kinds.specs.Refusals.{unknownKind}
-use Rattle.step.specs.Answers.{notArithmetic, selectorRefusals, bufferRefusals, stepRefusals, plainRefusals, stepAnswer}
+use Rattle.step.specs.StepCalls.{notArithmetic, selectorRefusals, bufferRefusals, stepRefusals, plainRefusals, stepAnswer}
 use Rattle.step.specs.Workers.{Ready, Sized}
 
 -- the selectors pass exactly where the numbers are ready

@@ -17,10 +17,10 @@ use Rattle.kinds.specs.Kinds.{kinds, lanes, lineAt, oneBitElement, oneBit, Arit
 use Rattle.kinds.proofs.Table.{where-so}
 use Rattle.kinds.specs.Rule.{laneOf, elementOf, major, minor}
 use Rattle.kinds.proofs.Digits.{major-lt, minor-lt}
-use Rattle.warp.specs.Buffers.{elementAt, wordsNeeded}
+use Rattle.buffers.specs.Buffers.{elementAt, wordsNeeded}
 use Rattle.step.specs.Step.{entryIn, combinedBits, added, resultAt, stepped}
-use Rattle.cell.specs.Limits.{cellOf}
-use Rattle.ones.specs.Combined.{bitsOf, onesWord}
+use Rattle.step_limit.specs.Limits.{cellOf}
+use Rattle.step_ones.specs.Combined.{bitsOf, onesWord}
 use Rattle.step.proofs.Matrices.{entry-A, entry-B, entry-C, stepped-is}
 
 first : Arithmetic 1

@@ -23,12 +23,12 @@ use Rattle.answers.specs.Tests.{Says}
 use Rattle.kinds.specs.declared.Entry.{Entry}
 use Rattle.kinds.specs.declared.Layout.{Layout}
 use Rattle.kinds.proofs.Table.{among, among-≡, among-≤, layoutAt, sane, rows-are, columns-are}
-use Rattle.warp.specs.Buffers.{index, laneNumber, elementAt, entryAt, unpackedOf, wordAt, packed}
-use Rattle.warp.specs.Buffers.{Fitting}
-use Rattle.warp.proofs.Places.{place-in}
-use Rattle.warp.proofs.Round as round
+use Rattle.buffers.specs.Buffers.{index, laneNumber, elementAt, entryAt, unpackedOf, wordAt, packed}
+use Rattle.buffers.specs.Buffers.{Fitting}
+use Rattle.buffers.proofs.Places.{place-in}
+use Rattle.buffers.proofs.Round as round
 use Rattle.step.specs.Step.{entryIn, depth, limit, added, resultAt, results, stepped}
-use Rattle.cell.specs.Limits.{cellOf}
+use Rattle.step_limit.specs.Limits.{cellOf}
 
 -- an entry of a buffer's matrix is its holder's element
 pub entry-is : (k r : ℕ) → Legal k r → (ws : List ℕ) (row column : ℕ) → row < rowsOf (layoutAt k r) → column < columnsOf (layoutAt k r)

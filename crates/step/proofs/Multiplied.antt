@@ -13,13 +13,13 @@ use Rattle.kinds.specs.Workers.{Laid, layoutsOf}
 use Rattle.kinds.specs.declared.Layouts.{Layouts}
 use Rattle.kinds.proofs.Digits.{major-lt, minor-lt}
 use Rattle.kinds.proofs.Table.{not-one-bit, layoutAt, sane}
-use Rattle.step.specs.Step.{entryIn, depth, half, unsignedA, unsignedB, products, added, resultAt, stepped}
-use Rattle.cell.specs.Limits.{cellOf}
+use Rattle.step.specs.Step.{entryIn, depth, signWeight, unsignedA, unsignedB, products, added, resultAt, stepped}
+use Rattle.step_limit.specs.Limits.{cellOf}
 use Rattle.step.specs.Workers.{Ready}
-use Rattle.sums.specs.Sums.{offsetOf, digit, digitAt, offsetDot, digitsWord, digitsWords, Digits, Summable}
-use Rattle.sums.specs.declared.Offsets.{Offsets}
-use Rattle.sums.proofs.OffsetDots.{element-lt, dot-digits, offset-ext}
-use Rattle.sums.proofs.Signs.{doubled}
+use Rattle.step_products.specs.Sums.{offsetOf, digit, digitAt, offsetDot, digitsWord, digitsWords, Digits, Summable}
+use Rattle.step_products.specs.declared.Offsets.{Offsets}
+use Rattle.step_products.proofs.OffsetDots.{element-lt, dot-digits, offset-ext}
+use Rattle.step_products.proofs.Signs.{doubled}
 use Rattle.answers.specs.Tests.{Says}
 use Rattle.step.proofs.Matrices.{entry-A, entry-B, entry-C, stepped-is, legal, depth-is, depth-small, pairs, bits-pos, bits-le, columns-half, halves-pos, words-pos, room-A, room-B, two-halves}
 
@@ -37,30 +37,30 @@ module _ (k signs mode : ℕ) (ok : Ready k signs mode) (two : Says (integer k))
   m = minors (layoutAt k 0)
 
   abbrev oa : ℕ
-  oa = offsetOf (unsignedA signs) (half k)
+  oa = offsetOf (unsignedA signs) (signWeight k)
 
   abbrev ob : ℕ
-  ob = offsetOf (unsignedB signs) (half k)
+  ob = offsetOf (unsignedB signs) (signWeight k)
 
-  size-is : 2 * half k ≡ 2 ^ β
+  size-is : 2 * signWeight k ≡ 2 ^ β
   size-is = sym (doubled β (bits-pos k (ok .of)))
 
   deep : (kk : ℕ) → kk < n → kk < m
   deep kk hk = subst (λ (z : ℕ). kk < z) (depth-is k (ok .of)) hk
 
-  pattern-A : (row kk : ℕ) → row < h * 8 → kk < n → entryIn k 0 a row kk < 2 * half k
+  pattern-A : (row kk : ℕ) → row < h * 8 → kk < n → entryIn k 0 a row kk < 2 * signWeight k
   pattern-A row kk hr hk = rw (entry-A k (ok .of) a row kk hr hk, size-is) (element-lt β (entryOf k .a) a _ _)
 
-  pattern-B : (column kk : ℕ) → column < 8 → kk < n → entryIn k 1 b kk column < 2 * half k
+  pattern-B : (column kk : ℕ) → column < 8 → kk < n → entryIn k 1 b kk column < 2 * signWeight k
   pattern-B column kk hc hk = rw (entry-B k (ok .of) b kk column hk hc, size-is) (element-lt β (entryOf k .b) b _ _)
 
   module _ (dx : Digits (layoutAt k 0) oa a xs) (dy : Digits (layoutAt k 1) ob b ys) where
     -- the digits are those of the entries, which are patterns
-    digit-A : (row kk : ℕ) → row < h * 8 → kk < n → getD xs (row * m + kk) 0 ≡ digit (2 * half k) oa (entryIn k 0 a row kk)
+    digit-A : (row kk : ℕ) → row < h * 8 → kk < n → getD xs (row * m + kk) 0 ≡ digit (2 * signWeight k) oa (entryIn k 0 a row kk)
     unfolding digitAt
     digit-A row kk hr hk = dx row kk hr (deep kk hk) ∙ ap₂ (λ (s v : ℕ). digit s oa v) (sym size-is) (sym (entry-A k (ok .of) a row kk hr hk))
 
-    digit-B : (column kk : ℕ) → column < 8 → kk < n → getD ys (column * m + kk) 0 ≡ digit (2 * half k) ob (entryIn k 1 b kk column)
+    digit-B : (column kk : ℕ) → column < 8 → kk < n → getD ys (column * m + kk) 0 ≡ digit (2 * signWeight k) ob (entryIn k 1 b kk column)
     unfolding digitAt
     digit-B column kk hc hk =
         dy column kk (omega (arith, columns-half k (ok .of))) (deep kk hk)
@@ -70,9 +70,9 @@ module _ (k signs mode : ℕ) (ok : Ready k signs mode) (two : Says (integer k))
     unfolding products
     sum-is row column hr hc =
         ap (λ (z : ℕ). offsetDot oa ob z (λ kk. getD xs (row * m + kk) 0) (λ kk. getD ys (column * m + kk) 0)) (sym (depth-is k (ok .of)))
-        ∙ offset-ext oa ob n (λ kk. getD xs (row * m + kk) 0) (λ kk. getD ys (column * m + kk) 0) (λ kk. digit (2 * half k) oa (entryIn k 0 a row kk)) (λ kk. digit (2 * half k) ob (entryIn k 1 b kk column))
+        ∙ offset-ext oa ob n (λ kk. getD xs (row * m + kk) 0) (λ kk. getD ys (column * m + kk) 0) (λ kk. digit (2 * signWeight k) oa (entryIn k 0 a row kk)) (λ kk. digit (2 * signWeight k) ob (entryIn k 1 b kk column))
         (λ kk l. (digit-A row kk hr l, digit-B column kk hc l))
-        ∙ sym (dot-digits (half k) (unsignedA signs) (unsignedB signs) n (λ kk. entryIn k 0 a row kk) (λ kk. entryIn k 1 b kk column) (λ kk l. (pattern-A row kk hr l, pattern-B column kk hc l)))
+        ∙ sym (dot-digits (signWeight k) (unsignedA signs) (unsignedB signs) n (λ kk. entryIn k 0 a row kk) (λ kk. entryIn k 1 b kk column) (λ kk l. (pattern-A row kk hr l, pattern-B column kk hc l)))
 
     word-is : (lane i : ℕ) → lane < lanes → i < entryOf k .c → digitsWord mode m oa ob (entryOf k .c) h xs ys c lane i ≡ resultAt k signs mode a b c (major 2 h lane i) (minor 2 h lane i)
     unfolding digitsWord resultAt added

@@ -15,9 +15,9 @@ use Rattle.kinds.specs.Kinds.{columnsAt, rowsAt, oneBit}
 use Rattle.answers.specs.Refusals.{given}
 use Rattle.answers.specs.Tests.{holds}
 use Rattle.kinds.proofs.Table.{rows-are, columns-are}
-use Rattle.step.specs.Step.{entryIn, depth, half, unsignedA, unsignedB, products, combinedBits, added, limit, resultAt, stepped}
-use Rattle.cell.specs.Limits.{cellOf}
-use Rattle.step.specs.Answers.{stepAnswer}
+use Rattle.step.specs.Step.{entryIn, depth, signWeight, unsignedA, unsignedB, products, combinedBits, added, limit, resultAt, stepped}
+use Rattle.step_limit.specs.Limits.{cellOf}
+use Rattle.step.specs.StepCalls.{stepAnswer}
 use Rattle.step.specs.Workers.{Ready}
 use Rattle.step.proofs.Accepted.{step-accepted}
 use Rattle.step.proofs.Matrices.{legal, entry-D}
@@ -64,7 +64,7 @@ module _ (k signs mode row : ℕ) (a a′ b b′ c c′ : List ℕ)
   same-products : (column : ℕ) → column < columnsD k → products k signs a b row column ≡ products k signs a′ b′ row column
   unfolding products
   same-products column h =
-      sumZ-cong (depth k) _ _ (λ kk l. ap₂ (λ (x y : ℕ). value (unsignedA signs) (half k) x *ℤ value (unsignedB signs) (half k) y) (same-a kk l) (same-b kk column l h))
+      sumZ-cong (depth k) _ _ (λ kk l. ap₂ (λ (x y : ℕ). value (unsignedA signs) (signWeight k) x *ℤ value (unsignedB signs) (signWeight k) y) (same-a kk l) (same-b kk column l h))
 
   same-bits : (column : ℕ) → column < columnsD k → combinedBits k mode a b row column ≡ combinedBits k mode a′ b′ row column
   unfolding combinedBits

@@ -1,3 +1,3 @@
 pub mod Step
-pub mod Answers
+pub mod StepCalls
 pub mod Workers

@@ -10,8 +10,8 @@ use Rattle.laws.specs.Bits.{combine, onesIn}
 use Rattle.laws.specs.Integers.{value, sumZ}
 use Rattle.laws.specs.Lists.{tab, blocks}
 use Rattle.kinds.specs.Kinds.{entryOf, columnsAt, rowsAt, oneBit}
-use Rattle.warp.specs.Buffers.{index, unpackedOf, packedOf}
-use Rattle.cell.specs.Limits.{cellOf}
+use Rattle.buffers.specs.Buffers.{index, unpackedOf, packedOf}
+use Rattle.step_limit.specs.Limits.{cellOf}
 
 -- A, B, C and D in steps are warp buffers: the entry of a buffer's matrix at a row and a column.
 unfoldable pub entryIn : (kind role : ℕ) → List ℕ → (row column : ℕ) → ℕ
@@ -21,8 +21,8 @@ entryIn kind role ws row column = getD (unpackedOf kind role ws) (index (columns
 abbrev pub depth : (kind : ℕ) → ℕ
 depth kind = entryOf kind .k
 
-abbrev pub half : (kind : ℕ) → ℕ
-half kind = 2 ^ (entryOf kind .bits - 1)
+abbrev pub signWeight : (kind : ℕ) → ℕ
+signWeight kind = 2 ^ (entryOf kind .bits - 1)
 
 -- The sign selector: 0 both signed (two's complement), 1 A unsigned, 2 B unsigned, 3 both unsigned.
 abbrev pub unsignedA : (signs : ℕ) → Bool
@@ -34,7 +34,7 @@ unsignedB signs = signs =? 2 || signs =? 3
 -- the sum over k of A(r, k) times B(k, c)
 unfoldable pub products : (kind signs : ℕ) → (a b : List ℕ) → (row column : ℕ) → ℤ
 products kind signs a b row column =
-    sumZ (depth kind) (λ k. value (unsignedA signs) (half kind) (entryIn kind 0 a row k) *ℤ value (unsignedB signs) (half kind) (entryIn kind 1 b k column))
+    sumZ (depth kind) (λ k. value (unsignedA signs) (signWeight kind) (entryIn kind 0 a row k) *ℤ value (unsignedB signs) (signWeight kind) (entryIn kind 1 b k column))
 
 -- In the one-bit kind mode 0 is xor, mode 1 is and: the K combined bits, of which the ones are counted.
 unfoldable pub combinedBits : (kind mode : ℕ) → (a b : List ℕ) → (row column : ℕ) → List ℕ

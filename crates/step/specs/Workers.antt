@@ -6,9 +6,9 @@ use lib.ListN.{length}
 use Rattle.answers.specs.Tests.{Says}
 use Rattle.answers.specs.Calls.{Call}
 use Rattle.kinds.specs.Kinds.{oneBit, Arithmetic}
-use Rattle.warp.specs.Buffers.{wordsNeeded}
+use Rattle.buffers.specs.Buffers.{wordsNeeded}
 use Rattle.step.specs.Step.{stepped}
-use Rattle.step.specs.Answers.{bufferRefusals}
+use Rattle.step.specs.StepCalls.{bufferRefusals}
 
 -- a step whose selectors were judged
 abbrev pub stepCallIn : (kind signs mode : ℕ) (a b c d : List ℕ) → Call (List ℕ)

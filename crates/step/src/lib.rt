@@ -6,18 +6,18 @@ ghost use Rattle.kinds.specs.Kinds.{kinds, oneBit, integer, Arithmetic};
 ghost use Rattle.answers.specs.Tests.{Says};
 ghost use Rattle.answers.specs.Contracts.{Meets, Judges};
 ghost use Rattle.step.specs.Step.{unsignedA, unsignedB, stepped};
-ghost use Rattle.step.specs.Answers.{selectorRefusals, bufferRefusals, stepCall, plainCall};
+ghost use Rattle.step.specs.StepCalls.{selectorRefusals, bufferRefusals, stepCall, plainCall};
 ghost use Rattle.step.specs.Workers.{stepCallIn, Ready, Sized};
-ghost use Rattle.sums.specs.Sums.{offsetOf};
+ghost use Rattle.step_products.specs.Sums.{offsetOf};
 use answers::Refusal;
 use answers::Verdict;
+use buffers::Lengths;
 use kinds::Entry;
 use kinds::Kind;
 use kinds::Layouts;
 use kinds::Mode;
 use kinds::Signs;
-use sums::Offsets;
-use warp::Lengths;
+use step_products::Offsets;
 
 // Refusals 1, 3 and 4, with which a step and the opening of a run begin.
 pub fn judge(kind: Kind, signs: Signs, mode: Mode) -> Verdict
@@ -98,9 +98,9 @@ fn multiply(kind: Kind, signs: Signs, mode: Mode, a: &[u32], b: &[u32], c: &[u32
     };
     let mut x: [u8; 1024] = [0; 1024];
     let mut y: [u8; 1024] = [0; 1024];
-    sums::digits(a, &mut x, f, ha);
-    sums::digits(b, &mut y, g, hb);
-    sums::cells(l, mode, h, &x, &y, c, d);
+    step_products::digits(a, &mut x, f, ha);
+    step_products::digits(b, &mut y, g, hb);
+    step_products::cells(l, mode, h, &x, &y, c, d);
 }
 
 // The one-bit kind.
@@ -109,7 +109,7 @@ fn count(kind: Kind, mode: Mode, a: &[u32], b: &[u32], c: &[u32], d: &mut [u32])
     requires { ⌜ Sized (kind .0) (length (now a)) (length (now b)) (length (now c)) (length (now d)) ⌝ }
     ensures { λ _. ⌜ now (d .exit) ≡ stepped (kind .0) 0 (mode .0) (now (a .entry)) (now (b .entry)) (now (c .entry)) ⌝ }
 {
-    ones::cells(mode, a, b, c, d);
+    step_ones::cells(mode, a, b, c, d);
 }
 
 // The words of D, for numbers and lengths that were judged: the worker of a step and of a run's feed.

@@ -5,11 +5,11 @@ use Prim.Native.Nat.{ℕ, _+_, _*_}
 use native.Mathlib.Omega.{arith}
 use lib.ListN.{length, getD}
 use Rattle.answers.specs.Refusals.{given}
-use Rattle.kinds.specs.Answers.{placeAnswer}
+use Rattle.kinds.specs.PlaceCalls.{placeAnswer}
 use Rattle.kinds.proofs.Table.{layoutAt}
-use Rattle.warp.specs.Buffers.{elementIn, index, unpackedOf, Fitting}
-use Rattle.warp.proofs.Placed.{placed}
-use Rattle.warp.proofs.Round as round
+use Rattle.buffers.specs.Buffers.{elementIn, index, unpackedOf, Fitting}
+use Rattle.buffers.proofs.Placed.{placed}
+use Rattle.buffers.proofs.Round as round
 use Rattle.unpack.proofs.Promises.{unpacked-at}
 use Rattle.pack.proofs.Promises.{unpack-pack}
 use Rattle.template.specs.Templates.{templateKind, templateRole, templateWords, templateRecord}

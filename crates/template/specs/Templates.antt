@@ -4,7 +4,7 @@ use mathlib.Core.List.{List, [], _∷_}
 use lib.ListN.{length}
 use Rattle.answers.specs.Tests.{differs}
 use Rattle.answers.specs.Calls.{_at_when_, Call}
-use Rattle.warp.specs.Buffers.{unpackedOf, packedOf, wordsNeeded}
+use Rattle.buffers.specs.Buffers.{unpackedOf, packedOf, wordsNeeded}
 
 -- B of kind 3, row-major, row k column c at byte 8k + c: a record's bytes are that matrix.
 abbrev pub templateKind : ℕ

@@ -2,7 +2,7 @@
 ghost use mathlib.Core.Path.{_≡_};
 ghost use lib.ListN.{length};
 ghost use Rattle.answers.specs.Contracts.{Meets};
-ghost use Rattle.warp.specs.Buffers.{Fitting};
+ghost use Rattle.buffers.specs.Buffers.{Fitting};
 ghost use Rattle.template.specs.Templates.{readCall, writeCall};
 use answers::Refusal;
 use answers::Verdict;

@@ -6,12 +6,12 @@ use lib.ListN.{length, getD}
 use Rattle.kinds.specs.Kinds.{columnsAt, rowsAt, Legal}
 use Rattle.kinds.specs.Rule.{rowsOf, columnsOf, holderOf}
 use Rattle.answers.specs.Refusals.{given}
-use Rattle.kinds.specs.Answers.{placeAnswer}
+use Rattle.kinds.specs.PlaceCalls.{placeAnswer}
 use Rattle.kinds.proofs.Table.{layoutAt, sane, rows-are, columns-are}
-use Rattle.kinds.proofs.Answers.{rule-placed}
-use Rattle.warp.specs.Buffers.{elementIn, index, unpackedOf, entriesNeeded}
-use Rattle.warp.proofs.Placed.{indexIn, legal, placed, laid, index-is, element-is, at-rule, entries-needed}
-use Rattle.warp.proofs.Round as round
+use Rattle.kinds.proofs.ByRule.{rule-placed}
+use Rattle.buffers.specs.Buffers.{elementIn, index, unpackedOf, entriesNeeded}
+use Rattle.buffers.proofs.Placed.{indexIn, legal, placed, laid, index-is, element-is, at-rule, entries-needed}
+use Rattle.buffers.proofs.Round as round
 
 -- 'the entry at the place of (lane, element) is that element's field of the lane's words, for every lane and element'
 pub unpacked-at : (k r : ℕ) (ws : List ℕ) (lane i : ℕ) (x : ℕ × ℕ) → placeAnswer k r lane i ≡ given x → getD (unpackedOf k r ws) (indexIn k r x) 0 ≡ elementIn k r ws lane i

@@ -11,12 +11,12 @@ use Rattle.laws.proofs.Toward.{brings-on, brings-set, brings-stores}
 use Rattle.kinds.specs.Kinds.{lanes}
 use Rattle.kinds.specs.Rule.{elementsOf, columnsOf}
 use Rattle.kinds.specs.declared.Layout.{Layout}
-use Rattle.warp.specs.Buffers.{elementAt, unpacked}
-use Rattle.warp.specs.Stretches.{sizeOf, stretchesOf, placeAt, OfLane, stepOf}
-use Rattle.warp.proofs.Elements.{element-field}
-use Rattle.warp.proofs.Places.{place-in, stretch-fills}
-use Rattle.warp.proofs.Round.{unpacked-at}
-use Rattle.warp.proofs.Stretches.{narrow-size, narrow-word, wide-size, wide-element, stretch-element, narrow-at}
+use Rattle.buffers.specs.Buffers.{elementAt, unpacked}
+use Rattle.buffers.specs.Stretches.{sizeOf, stretchesOf, placeAt, OfLane, stepOf}
+use Rattle.buffers.proofs.Elements.{element-field}
+use Rattle.buffers.proofs.Places.{place-in, stretch-fills}
+use Rattle.buffers.proofs.Round.{unpacked-at}
+use Rattle.buffers.proofs.Stretches.{narrow-size, narrow-word, wide-size, wide-element, stretch-element, narrow-at}
 use Rattle.unpack.specs.Workers.{Unpacks}
 
 module _ (f : Layout) (ws m : List ℕ) (ok : Unpacks f ws m) (r lane base : ℕ) (hr : r < stretchesOf f) (hl : lane < lanes) (e : base ≡ placeAt f lane (r * sizeOf f)) where

@@ -8,8 +8,8 @@ use Rattle.kinds.specs.Kinds.{lanes}
 use Rattle.kinds.specs.Rule.{rowsOf, columnsOf}
 use Rattle.kinds.specs.Workers.{Laid}
 use Rattle.kinds.specs.declared.Layout.{Layout}
-use Rattle.warp.specs.Buffers.{unpacked}
-use Rattle.unpack.specs.Answers.{lengthRefusals}
+use Rattle.buffers.specs.Buffers.{unpacked}
+use Rattle.unpack.specs.UnpackCall.{lengthRefusals}
 
 -- the call in a layout
 abbrev pub unpackCallIn : Layout → (words matrix : List ℕ) → Call (List ℕ)

@@ -7,19 +7,19 @@ ghost use Rattle.kinds.specs.Kinds.{lanes};
 ghost use Rattle.kinds.specs.Workers.{Laid};
 ghost use Rattle.answers.specs.Contracts.{Meets};
 ghost use Rattle.laws.specs.Toward.{stores, Brings, Below};
-ghost use Rattle.warp.specs.Buffers.{elementAt, unpacked};
-ghost use Rattle.warp.specs.Stretches.{sizeOf, stretchesOf, OfLane, OfQuad};
+ghost use Rattle.buffers.specs.Buffers.{elementAt, unpacked};
+ghost use Rattle.buffers.specs.Stretches.{sizeOf, stretchesOf, OfLane, OfQuad};
 ghost use Rattle.unpack.specs.Workers.{unpackCallIn, Unpacks};
-ghost use Rattle.unpack.specs.Answers.{unpackCall};
+ghost use Rattle.unpack.specs.UnpackCall.{unpackCall};
 use answers::Refusal;
 use answers::Verdict;
+use buffers::Quad;
+use buffers::Stretch;
 use kinds::Kind;
 use kinds::Known;
 use kinds::Lane;
 use kinds::Layout;
 use kinds::Role;
-use warp::Quad;
-use warp::Stretch;
 
 // Word k, as a wider number.
 fn word(words: &[u32], k: usize) -> u64
@@ -37,7 +37,7 @@ fn scatter(matrix: &mut [u64], word: u64, bits: usize, side: usize, base: usize,
 {
     let mut j = 0;
     while j < side {
-        matrix[base + j * step] = warp::field_of(word, bits, j);
+        matrix[base + j * step] = buffers::field_of(word, bits, j);
         j += 1;
     }
 }
@@ -62,9 +62,9 @@ fn fill_lane(words: &[u32], matrix: &mut [u64], f: Layout, stretch: Stretch, lan
     requires { ⌜ Unpacks f (now words) (now matrix) × (stretch .0 < stretchesOf f) × (lane .0 < lanes) ⌝ }
     ensures { λ _. ⌜ Brings (unpacked f (now (words .entry))) (OfLane f (sizeOf f) (stretch .0) (lane .0)) (now (matrix .entry)) (now (matrix .exit)) ⌝ }
 {
-    let base = warp::base_of(f, stretch, lane);
+    let base = buffers::base_of(f, stretch, lane);
     if f.bits < 32 {
-        let step = warp::step_of(f);
+        let step = buffers::step_of(f);
         let fields = word(words, lane.0 as usize * f.words + stretch.0);
         return scatter(matrix, fields, f.bits, f.side, base, step);
     }
@@ -94,7 +94,7 @@ pub fn fill(words: &[u32], matrix: &mut [u64], f: Layout)
     requires { ⌜ Unpacks f (now words) (now matrix) ⌝ }
     ensures { λ _. ⌜ now (matrix .exit) ≡ unpacked f (now (words .entry)) ⌝ }
 {
-    for stretch in 0..warp::stretches_in(f) {
+    for stretch in 0..buffers::stretches_in(f) {
         fill_quads(words, matrix, f, Stretch(stretch));
     }
 }
@@ -104,8 +104,8 @@ fn unpack_in(f: Layout, words: &[u32], matrix: &mut [u64]) -> Verdict
     ensures { λ r. ⌜ Meets (unpackCallIn f (now (words .entry)) (now (matrix .entry))) (now (matrix .entry)) r (now (matrix .exit)) ⌝ }
 {
     let each = f.words;
-    let rows = warp::rows_in(f);
-    let columns = warp::columns_in(f);
+    let rows = buffers::rows_in(f);
+    let columns = buffers::columns_in(f);
     if words.len() != Lane::COUNT * each {
         return Verdict::Refused(Refusal::WrongLength(0));
     }

@@ -12,7 +12,7 @@ use Rattle.answers.specs.declared.Verdict.{Verdict}
 use Rattle.answers.specs.declared.Verdict.the-variants.{Accepted, Refused}
 use Rattle.run.specs.declared.Run.{Run}
 use Rattle.run.specs.Runs.{openedRun, zeroRun, fedRun, usedOf}
-use Rattle.run.specs.Answers.{openAnswer, feedAnswer, readAnswer}
+use Rattle.run.specs.RunCalls.{openAnswer, feedAnswer, readAnswer}
 use Rattle.run.specs.Blocks.{Block, fedBy, fedAll}
 use Rattle.answers.specs.Contracts.{codeOf}
 use Rattle.wazimroot.specs.Words.{runIn, wordsOf, openedWords, readWords, fedAllWords}

@@ -4,7 +4,7 @@ use mathlib.Core.List.{List, [], _∷_}
 use lib.ListN.{getD, drop}
 use Rattle.answers.specs.Calls.{Call, giving, leftBy}
 use Rattle.run.specs.Runs.{runOf, zeroRun}
-use Rattle.run.specs.Answers.{openCall, feedCall, readCall}
+use Rattle.run.specs.RunCalls.{openCall, feedCall, readCall}
 use Rattle.run.specs.Blocks.{Block}
 use Rattle.run.specs.declared.Run.{Run}
 

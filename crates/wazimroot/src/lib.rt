@@ -4,13 +4,13 @@ ghost use Prim.Native.Nat.{_+_, _*_, _^_};
 ghost use mathlib.Core.List.{[], _∷_};
 ghost use lib.ListN.{length, drop};
 ghost use Rattle.answers.specs.Refusals.{numberOf, detailOf, told};
-ghost use Rattle.kinds.specs.Answers.{placeCall, findCall};
-ghost use Rattle.unpack.specs.Answers.{unpackCall};
-ghost use Rattle.pack.specs.Answers.{packCall};
+ghost use Rattle.kinds.specs.PlaceCalls.{placeCall, findCall};
+ghost use Rattle.unpack.specs.UnpackCall.{unpackCall};
+ghost use Rattle.pack.specs.PackCall.{packCall};
 ghost use Rattle.template.specs.Templates.{readCall, writeCall};
-ghost use Rattle.step.specs.Answers.{stepCall, plainCall};
+ghost use Rattle.step.specs.StepCalls.{stepCall, plainCall};
 ghost use Rattle.run.specs.Runs.{zeroRun};
-ghost use Rattle.scale.specs.Answers.{scaleCall};
+ghost use Rattle.scale.specs.ScaleCall.{scaleCall};
 ghost use Rattle.answers.specs.Calls.{giving};
 ghost use Rattle.answers.specs.Contracts.{codeOf, Coded};
 ghost use Rattle.wazimroot.specs.Words.{pairOf, runIn, wordsOf, openInWords, feedInWords, readInWords};
@@ -130,7 +130,7 @@ fn taken(words: &[u32]) -> Run
     ensures { λ r. ⌜ r ≡ runIn (now (words .entry)) ⌝ }
 {
     let mut sums: [u32; 128] = [0; 128];
-    run::copy(&words[4..132], &mut sums);
+    buffers::copy(&words[4..132], &mut sums);
     Run {
         kind: Kind(words[0]),
         signs: Signs(words[1]),
@@ -157,7 +157,7 @@ fn put(run: Run, words: &mut [u32])
     ensures { λ _. ⌜ now (words .exit) ≡ wordsOf run ⌝ }
 {
     let sums = run.sums;
-    run::copy(&sums, &mut words[4..132]);
+    buffers::copy(&sums, &mut words[4..132]);
     put_head(run, words);
 }
 

@@ -6,9 +6,9 @@ use Rattle.answers.specs.Calls.{answer}
 use Rattle.answers.proofs.Shows.{replies}
 use Rattle.answers.proofs.Demand1.{reply-is}
 use Rattle.kinds.specs.Rule.{turn}
-use Rattle.kinds.specs.Answers.{findAnswer}
+use Rattle.kinds.specs.PlaceCalls.{findAnswer}
 use Rattle.kinds.specs.Workers.{findCallIn}
-use Rattle.kinds.proofs.Answers.{known-sane, known-found, find-refused}
+use Rattle.kinds.proofs.ByRule.{known-sane, known-found, find-refused}
 use Rattle.kinds.proofs.find.Statement.{statement}
 use Rattle.kinds.proofs.find.Tie as tie
 

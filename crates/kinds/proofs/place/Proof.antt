@@ -3,8 +3,8 @@ use borrow.Author.Needs.{needs}
 use mathlib.Core.Path.{_∙_}
 use Rattle.answers.proofs.Shows.{replies}
 use Rattle.answers.proofs.Demand1.{reply-is}
-use Rattle.kinds.specs.Answers.{placeAnswer}
-use Rattle.kinds.proofs.Answers.{known-sane, known-placed, place-refused}
+use Rattle.kinds.specs.PlaceCalls.{placeAnswer}
+use Rattle.kinds.proofs.ByRule.{known-sane, known-placed, place-refused}
 use Rattle.kinds.proofs.place.Statement.{statement}
 use Rattle.kinds.proofs.place.Tie as tie
 

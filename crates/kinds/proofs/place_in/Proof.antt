@@ -1,7 +1,7 @@
 -- The tests that led to a return decide it; the numbers are the rule's. Assumes nothing.
 use borrow.Author.Needs.{needs}
 use mathlib.Core.Bool.{true, false}
-use Rattle.kinds.proofs.Answers.{placed}
+use Rattle.kinds.proofs.ByRule.{placed}
 use Rattle.kinds.proofs.place_in.Statement.{statement}
 use Rattle.kinds.proofs.place_in.Tie as tie
 

@@ -8,10 +8,10 @@ use denote.Ref.{now}
 use Rattle.laws.specs.Toward.{Brings, Below}
 use Rattle.laws.proofs.Toward.{brings-none, brings-more, brings-all}
 use Rattle.kinds.specs.declared.Layout.{Layout}
-use Rattle.warp.specs.Buffers.{packed}
-use Rattle.warp.specs.Stretches.{holdingOf, stretchesOf, WordsOfQuad}
-use Rattle.warp.proofs.Round.{packed-length}
-use Rattle.warp.proofs.Stretches.{word-covered}
+use Rattle.buffers.specs.Buffers.{packed}
+use Rattle.buffers.specs.Stretches.{holdingOf, stretchesOf, WordsOfQuad}
+use Rattle.buffers.proofs.Round.{packed-length}
+use Rattle.buffers.proofs.Stretches.{word-covered}
 use Rattle.pack.proofs.fill_words.Statement.{statement}
 use Rattle.pack.proofs.fill_words.Tie as tie
 

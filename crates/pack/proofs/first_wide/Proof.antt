@@ -9,7 +9,7 @@ use denote.Ref.{now}
 use lib.ListN.{length, getD}
 use lib.Pow.{pow-pos, ones-split, ones-lt, high}
 use Rattle.answers.proofs.Words.{first-here, first-nowhere}
-use Rattle.pack.specs.Answers.{tooWide}
+use Rattle.pack.specs.PackCall.{tooWide}
 use Rattle.pack.proofs.first_wide.Statement.{statement}
 use Rattle.pack.proofs.first_wide.Tie as tie
 

@@ -9,11 +9,11 @@ use Rattle.answers.proofs.Shows.{meets}
 use Rattle.answers.proofs.Demand1.{verdict-is}
 use Rattle.kinds.specs.Kinds.{bitsAt}
 use Rattle.kinds.specs.declared.Layout.{Layout}
-use Rattle.kinds.proofs.Answers.{known-legal, known-sane, handed-on}
-use Rattle.warp.specs.Buffers.{packed, wordsNeeded, entriesNeeded}
-use Rattle.pack.specs.Answers.{matrixRefusals}
+use Rattle.kinds.proofs.ByRule.{known-legal, known-sane, handed-on}
+use Rattle.buffers.specs.Buffers.{packed, wordsNeeded, entriesNeeded}
+use Rattle.pack.specs.PackCall.{matrixRefusals}
 use Rattle.pack.specs.Workers.{packCallIn}
-use Rattle.pack.proofs.Answers.{pack-is}
+use Rattle.pack.proofs.ByLayout.{pack-is}
 use Rattle.pack.proofs.pack.Statement.{statement}
 use Rattle.pack.proofs.pack.Tie as tie
 

@@ -10,7 +10,7 @@ use lib.ListN.{length}
 use Rattle.kinds.specs.Rule.{rowsOf, columnsOf}
 use Rattle.answers.specs.Tests.{somewhere}
 use Rattle.answers.proofs.Shows.{Shows, skips, stops, kept, shows, denied}
-use Rattle.pack.specs.Answers.{tooWide}
+use Rattle.pack.specs.PackCall.{tooWide}
 use Rattle.pack.proofs.pack_in.Statement.{statement}
 use Rattle.pack.proofs.pack_in.Tie as tie
 

@@ -11,8 +11,8 @@ use Rattle.laws.specs.Toward.{Brings, Below}
 use Rattle.laws.proofs.Toward.{brings-none, brings-more}
 use Rattle.kinds.specs.Kinds.{lanes}
 use Rattle.kinds.specs.declared.Layout.{Layout}
-use Rattle.warp.specs.Buffers.{packed}
-use Rattle.warp.specs.Stretches.{holdingOf, WordsOfLane}
+use Rattle.buffers.specs.Buffers.{packed}
+use Rattle.buffers.specs.Stretches.{holdingOf, WordsOfLane}
 use Rattle.pack.specs.Workers.{Packs}
 use Rattle.pack.proofs.Written.{part-in, lane-written}
 use Rattle.pack.proofs.put_quad.Statement.{statement}

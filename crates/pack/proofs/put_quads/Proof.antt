@@ -6,8 +6,8 @@ use native.Mathlib.Omega.{arith}
 use denote.Ref.{now}
 use Rattle.laws.specs.Toward.{Brings, Below}
 use Rattle.laws.proofs.Toward.{brings-none, brings-more}
-use Rattle.warp.specs.Buffers.{packed}
-use Rattle.warp.specs.Stretches.{holdingOf, WordsOfQuad}
+use Rattle.buffers.specs.Buffers.{packed}
+use Rattle.buffers.specs.Stretches.{holdingOf, WordsOfQuad}
 use Rattle.pack.proofs.put_quads.Statement.{statement}
 use Rattle.pack.proofs.put_quads.Tie as tie
 

@@ -7,9 +7,9 @@ use denote.Ref.{now}
 use lib.ListN.{length, getD, length-set}
 use Rattle.laws.specs.Fields.{field, joined}
 use Rattle.kinds.specs.declared.Layout.{Layout}
-use Rattle.warp.specs.Stretches.{holdingOf}
-use Rattle.warp.proofs.Places.{stretch-fills, wide-is}
-use Rattle.warp.proofs.Stretches.{one-word, two-words, stretch-word}
+use Rattle.buffers.specs.Stretches.{holdingOf}
+use Rattle.buffers.proofs.Places.{stretch-fills, wide-is}
+use Rattle.buffers.proofs.Stretches.{one-word, two-words, stretch-word}
 use Rattle.pack.proofs.Written.{entry-in, fields-word, whole-in, whole-word, half-word, one-stored, two-stored}
 use Rattle.pack.proofs.write_lane.Statement.{statement}
 use Rattle.pack.proofs.write_lane.Tie as tie

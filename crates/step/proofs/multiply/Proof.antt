@@ -8,7 +8,7 @@ use native.Mathlib.Omega.{arith}
 use Rattle.kinds.specs.Rule.{majors, minors}
 use Rattle.kinds.specs.Workers.{Laid}
 use Rattle.kinds.specs.declared.Layouts.{Layouts}
-use Rattle.sums.specs.Sums.{offsetOf}
+use Rattle.step_products.specs.Sums.{offsetOf}
 use Rattle.step.proofs.Multiplied.{multiplied, numbers, summable}
 use Rattle.step.proofs.multiply.Statement.{statement}
 use Rattle.step.proofs.multiply.Tie as tie

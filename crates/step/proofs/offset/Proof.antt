@@ -6,7 +6,7 @@ use Prim.Native.Nat.{ℕ, _-_, _*_, _%_, _^_, _<_, _≤_}
 use native.Mathlib.Nat.{one-mul, mod-eq-of-lt}
 use native.Mathlib.Omega.{arith}
 use lib.Pow.{pow-lt, pow-mono}
-use Rattle.sums.specs.Sums.{offsetOf}
+use Rattle.step_products.specs.Sums.{offsetOf}
 use Rattle.step.proofs.offset.Statement.{statement}
 use Rattle.step.proofs.offset.Tie as tie
 

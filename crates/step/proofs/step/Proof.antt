@@ -3,7 +3,7 @@ use borrow.Author.Needs.{needs}
 use denote.Ref.{now}
 use lib.ListN.{length}
 use Rattle.answers.proofs.Shows.{admitted, stands, called-on, kept}
-use Rattle.step.specs.Answers.{bufferRefusals}
+use Rattle.step.specs.StepCalls.{bufferRefusals}
 use Rattle.step.proofs.Accepted.{ready}
 use Rattle.step.proofs.step.Statement.{statement}
 use Rattle.step.proofs.step.Tie as tie

@@ -9,7 +9,7 @@ use lib.ListN.{length}
 use Rattle.answers.proofs.Shows.{meets}
 use Rattle.kinds.specs.Rule.{rowsOf, columnsOf}
 use Rattle.kinds.specs.declared.Layout.{Layout}
-use Rattle.warp.specs.Buffers.{Fitting, packed}
+use Rattle.buffers.specs.Buffers.{Fitting, packed}
 use Rattle.template.proofs.read.Statement.{statement}
 use Rattle.template.proofs.read.Tie as tie
 

@@ -10,10 +10,10 @@ use Rattle.kinds.proofs.Table.{layoutAt}
 use Rattle.answers.proofs.Shows.{meets}
 use Rattle.kinds.specs.Rule.{rowsOf, columnsOf}
 use Rattle.kinds.specs.declared.Layout.{Layout}
-use Rattle.warp.specs.Buffers.{Fitting, unpacked}
+use Rattle.buffers.specs.Buffers.{Fitting, unpacked}
 use Rattle.template.specs.Templates.{templateKind, templateRole}
 use Rattle.template.proofs.Records.{template-laid}
-use Rattle.warp.proofs.Round.{unpacked-fits, unpacked-length}
+use Rattle.buffers.proofs.Round.{unpacked-fits, unpacked-length}
 use Rattle.template.proofs.write.Statement.{statement}
 use Rattle.template.proofs.write.Tie as tie
 

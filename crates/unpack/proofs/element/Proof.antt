@@ -6,11 +6,11 @@ use native.Mathlib.Omega.{arith}
 use denote.Ref.{now}
 use lib.ListN.{length, getD}
 use Rattle.kinds.specs.declared.Layout.{Layout}
-use Rattle.warp.specs.Buffers.{elementAt}
-use Rattle.warp.specs.Stretches.{holdingOf}
-use Rattle.warp.proofs.Elements.{element-two, element-whole}
-use Rattle.warp.proofs.Places.{wide-is}
-use Rattle.warp.proofs.Stretches.{one-word, two-words, stretch-word, lane-small, lane-word}
+use Rattle.buffers.specs.Buffers.{elementAt}
+use Rattle.buffers.specs.Stretches.{holdingOf}
+use Rattle.buffers.proofs.Elements.{element-two, element-whole}
+use Rattle.buffers.proofs.Places.{wide-is}
+use Rattle.buffers.proofs.Stretches.{one-word, two-words, stretch-word, lane-small, lane-word}
 use Rattle.unpack.proofs.element.Statement.{statement}
 use Rattle.unpack.proofs.element.Tie as tie
 

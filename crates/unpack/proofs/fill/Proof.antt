@@ -8,10 +8,10 @@ use denote.Ref.{now}
 use Rattle.laws.specs.Toward.{Brings, Below}
 use Rattle.laws.proofs.Toward.{brings-none, brings-more, brings-all}
 use Rattle.kinds.specs.declared.Layout.{Layout}
-use Rattle.warp.specs.Buffers.{unpacked}
-use Rattle.warp.specs.Stretches.{sizeOf, stretchesOf, OfQuad}
-use Rattle.warp.proofs.Round.{unpacked-length}
-use Rattle.warp.proofs.Stretches.{place-covered}
+use Rattle.buffers.specs.Buffers.{unpacked}
+use Rattle.buffers.specs.Stretches.{sizeOf, stretchesOf, OfQuad}
+use Rattle.buffers.proofs.Round.{unpacked-length}
+use Rattle.buffers.proofs.Stretches.{place-covered}
 use Rattle.unpack.proofs.fill.Statement.{statement}
 use Rattle.unpack.proofs.fill.Tie as tie
 

@@ -8,10 +8,10 @@ use denote.Ref.{now}
 use lib.ListN.{length}
 use Rattle.laws.specs.Fields.{field}
 use Rattle.laws.specs.Toward.{Brings, stores}
-use Rattle.warp.specs.Buffers.{unpacked}
-use Rattle.warp.specs.Stretches.{OfLane}
-use Rattle.warp.proofs.Places.{stretch-fills}
-use Rattle.warp.proofs.Stretches.{narrow-size, wide-size, one-word, lane-word}
+use Rattle.buffers.specs.Buffers.{unpacked}
+use Rattle.buffers.specs.Stretches.{OfLane}
+use Rattle.buffers.proofs.Places.{stretch-fills}
+use Rattle.buffers.proofs.Stretches.{narrow-size, wide-size, one-word, lane-word}
 use Rattle.unpack.proofs.Stored.{field-in, fields-stored, whole-in, whole-stored}
 use Rattle.unpack.proofs.fill_lane.Statement.{statement}
 use Rattle.unpack.proofs.fill_lane.Tie as tie

@@ -7,8 +7,8 @@ use denote.Ref.{now}
 use Rattle.laws.specs.Toward.{Brings, Below}
 use Rattle.laws.proofs.Toward.{brings-none, brings-more}
 use Rattle.kinds.specs.declared.Layout.{Layout}
-use Rattle.warp.specs.Buffers.{unpacked}
-use Rattle.warp.specs.Stretches.{sizeOf, OfLane}
+use Rattle.buffers.specs.Buffers.{unpacked}
+use Rattle.buffers.specs.Stretches.{sizeOf, OfLane}
 use Rattle.unpack.proofs.fill_quad.Statement.{statement}
 use Rattle.unpack.proofs.fill_quad.Tie as tie
 

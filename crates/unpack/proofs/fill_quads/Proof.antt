@@ -6,8 +6,8 @@ use native.Mathlib.Omega.{arith}
 use denote.Ref.{now}
 use Rattle.laws.specs.Toward.{Brings, Below}
 use Rattle.laws.proofs.Toward.{brings-none, brings-more}
-use Rattle.warp.specs.Buffers.{unpacked}
-use Rattle.warp.specs.Stretches.{sizeOf, OfQuad}
+use Rattle.buffers.specs.Buffers.{unpacked}
+use Rattle.buffers.specs.Stretches.{sizeOf, OfQuad}
 use Rattle.unpack.proofs.fill_quads.Statement.{statement}
 use Rattle.unpack.proofs.fill_quads.Tie as tie
 

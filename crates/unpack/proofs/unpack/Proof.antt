@@ -8,11 +8,11 @@ use Rattle.answers.specs.Calls.{judgement}
 use Rattle.answers.proofs.Shows.{meets}
 use Rattle.answers.proofs.Demand1.{verdict-is}
 use Rattle.kinds.specs.declared.Layout.{Layout}
-use Rattle.kinds.proofs.Answers.{known-legal, known-sane, handed-on}
-use Rattle.warp.specs.Buffers.{unpacked, wordsNeeded, entriesNeeded}
-use Rattle.unpack.specs.Answers.{lengthRefusals}
+use Rattle.kinds.proofs.ByRule.{known-legal, known-sane, handed-on}
+use Rattle.buffers.specs.Buffers.{unpacked, wordsNeeded, entriesNeeded}
+use Rattle.unpack.specs.UnpackCall.{lengthRefusals}
 use Rattle.unpack.specs.Workers.{unpackCallIn}
-use Rattle.unpack.proofs.Answers.{unpack-is}
+use Rattle.unpack.proofs.ByLayout.{unpack-is}
 use Rattle.unpack.proofs.unpack.Statement.{statement}
 use Rattle.unpack.proofs.unpack.Tie as tie
 

@@ -5,7 +5,7 @@ use denote.Ref.{now}
 use Rattle.answers.specs.Contracts.{Meets}
 use Rattle.answers.proofs.Codes.{left-given, left-refused}
 use Rattle.run.specs.declared.Run.{Run}
-use Rattle.run.specs.Answers.{feedCall}
+use Rattle.run.specs.RunCalls.{feedCall}
 use Rattle.wazimroot.specs.Words.{runIn, wordsOf}
 use Rattle.wazimroot.proofs.wz_feed.Statement.{statement}
 use Rattle.wazimroot.proofs.wz_feed.Tie as tie

@@ -7,7 +7,7 @@ use Rattle.answers.specs.Contracts.{Meets}
 use Rattle.answers.specs.declared.Verdict.{Verdict}
 use Rattle.answers.proofs.Codes.{coded-as}
 use Rattle.run.specs.declared.Run.{Run}
-use Rattle.run.specs.Answers.{readCall}
+use Rattle.run.specs.RunCalls.{readCall}
 use Rattle.wazimroot.proofs.wz_read.Statement.{statement}
 use Rattle.wazimroot.proofs.wz_read.Tie as tie
 

@@ -5,7 +5,7 @@ use Prim.Native.Nat.{_≤_}
 use native.Mathlib.Omega.{arith}
 use lib.ListN.{length}
 use lib.Seq.{length-take-le}
-use Rattle.warp.specs.Buffers.{wordsNeeded}
+use Rattle.buffers.specs.Buffers.{wordsNeeded}
 use Rattle.run.proofs.Laws.{used-le, fed-is}
 use Rattle.run.proofs.Run.fed.Statement.{statement}
 use Rattle.run.proofs.Run.fed.Tie as tie

@@ -4,7 +4,7 @@ use mathlib.Core.Path.{refl}
 use native.Mathlib.Omega.{arith}
 use Rattle.answers.proofs.Shows.{admitted, not-passed, shown, hidden, stops, skips, accepts}
 use Rattle.step.proofs.Accepted.{ready, ready-passes}
-use Rattle.run.specs.Answers.{badRun}
+use Rattle.run.specs.RunCalls.{badRun}
 use Rattle.run.proofs.Laws.{sound, sound-back}
 use Rattle.run.proofs.Run.judge.Statement.{statement}
 use Rattle.run.proofs.Run.judge.Tie as tie

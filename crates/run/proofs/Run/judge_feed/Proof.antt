@@ -5,8 +5,8 @@ use native.Mathlib.Omega.{arith}
 use Rattle.answers.specs.Tests.{differs}
 use Rattle.answers.specs.Calls.{_when_, _at_when_}
 use Rattle.answers.proofs.Shows.{admitted, stands, continues, skips, accepts}
-use Rattle.warp.specs.Buffers.{wordsNeeded}
-use Rattle.run.specs.Answers.{fullRun}
+use Rattle.buffers.specs.Buffers.{wordsNeeded}
+use Rattle.run.specs.RunCalls.{fullRun}
 use Rattle.run.proofs.Laws.{sound}
 use Rattle.run.proofs.Run.judge_feed.Statement.{statement}
 use Rattle.run.proofs.Run.judge_feed.Tie as tie

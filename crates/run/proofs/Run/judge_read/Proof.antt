@@ -5,7 +5,7 @@ use native.Mathlib.Omega.{arith}
 use Rattle.answers.specs.Tests.{differs}
 use Rattle.answers.specs.Calls.{_at_when_}
 use Rattle.answers.proofs.Shows.{admitted, stands, continues, skips, accepts}
-use Rattle.warp.specs.Buffers.{wordsNeeded}
+use Rattle.buffers.specs.Buffers.{wordsNeeded}
 use Rattle.run.proofs.Laws.{sound}
 use Rattle.run.proofs.Run.judge_read.Statement.{statement}
 use Rattle.run.proofs.Run.judge_read.Tie as tie

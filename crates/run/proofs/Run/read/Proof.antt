@@ -7,7 +7,7 @@ use native.Mathlib.Omega.{arith}
 use denote.Ref.{now}
 use lib.ListN.{length, take}
 use lib.Seq.{length-take-le}
-use Rattle.warp.specs.Buffers.{wordsNeeded}
+use Rattle.buffers.specs.Buffers.{wordsNeeded}
 use Rattle.step.specs.Workers.{Ready}
 use Rattle.answers.proofs.Shows.{admitted, worked, kept}
 use Rattle.run.specs.Runs.{usedOf}

@@ -1,0 +1,134 @@
+-- Texts put one after another, how long a line can be, and what is printed for one record more. Assumes nothing.
+use mathlib.Core.Path.{_≡_, refl, sym, ap, _∙_}
+use mathlib.Core.Bool.{Bool, true, false}
+use mathlib.Core.List.{List, [], _∷_, _++_, append-assoc, append-nil}
+use Prim.Native.Nat.{ℕ, _+_, _-_, _*_, _%_, _<_, _≤_}
+use native.Mathlib.Nat.{add-zero}
+use native.Mathlib.Numerals.{add-one}
+use native.Mathlib.Omega.{arith}
+use lib.ListN.{length, take, drop, getD, set, length-append, length-set, length-take, length-drop, take-append-drop}
+use lib.Seq.{length-take-le, take-suc-set, take-add, getD-drop, drop-set-lt, drop-drop}
+use Rattle.laws.specs.Choice.{if_then_else_, _<?_}
+use Rattle.kinds.specs.Rule.{turn, major, minor}
+use Rattle.answers.specs.Refusals.{Answer, given, refusal}
+use Rattle.kinds.specs.PlaceCalls.{placeAnswer}
+use Rattle.kinds.proofs.Digits.{major-lt, minor-lt}
+use Rattle.kinds.proofs.Table.{layoutAt, sane}
+use Rattle.kinds.proofs.ByRule.{place-legal, placed-inside}
+use Rattle.lookup_text.specs.Text.{decimal, lineOf, printed, shortText, Put}
+
+-- no text, one byte, and a text after a text
+pub put-none : (xs : List ℕ) (at : ℕ) → Put [] xs at xs at
+put-none xs at = record { says = sym (append-nil (take at xs)); ends = omega arith; behind = refl; keeps = refl }
+
+pub put-one : (xs : List ℕ) (at b : ℕ) → at < length xs → Put (b ∷ []) xs at (set xs at b) (at + 1)
+put-one xs at b h = record { says = rw add-one (take-suc-set xs at b h); ends = refl; behind = drop-set-lt (at + 1) xs at b (omega arith); keeps = length-set xs at b }
+
+pub put-put : {t u xs ys zs : List ℕ} {a b c : ℕ} → Put t xs a ys b → Put u ys b zs c → Put (t ++ u) xs a zs c
+put-put {t} {u} {xs} {ys} {zs} {a} {b} {c} p q = record {
+  says = q .says ∙ ap (λ (l : List ℕ). l ++ u) (p .says) ∙ append-assoc (take a xs) t u;
+  ends = simp length-append (omega arith);
+  behind = q .behind ∙ further b c ys xs (p .behind) (omega (arith, q .ends));
+  keeps = q .keeps ∙ p .keeps;
+}
+  where
+    further : (b c : ℕ) (ys xs : List ℕ) → drop b ys ≡ drop b xs → b ≤ c → drop c ys ≡ drop c xs
+    further b c ys xs e h =
+        let n : c ≡ b + (c - b) = omega arith in
+        ap (λ (m : ℕ). drop m ys) n ∙ sym (drop-drop (c - b) b ys) ∙ ap (drop (c - b)) e ∙ drop-drop (c - b) b xs ∙ ap (λ (m : ℕ). drop m xs) (sym n)
+
+pub put-ends : {t xs ys : List ℕ} {a b : ℕ} → Put t xs a ys b → (n : ℕ) → length t ≤ n → b ≤ a + n
+put-ends p n h = omega arith
+
+-- so many bytes at the start of a buffer
+pub counts : (n : ℕ) (xs : List ℕ) → n ≤ length xs → (n ≤ length xs) × (n ≡ length (take n xs))
+counts n xs h = (h, sym (length-take-le n xs h))
+
+-- no number takes more than three digits
+shorter : (t : Bool) (n : ℕ) (xs ys : List ℕ) → length xs ≤ n → length ys ≤ n → length (if t then xs else ys) ≤ n
+shorter true n xs ys p q = p
+shorter false n xs ys p q = q
+
+pub decimal-length : (n : ℕ) → length (decimal n) ≤ 3
+unfolding decimal
+decimal-length n = shorter (n <? 10) 3 _ _ (omega arith) (shorter (n <? 100) 3 _ _ (omega arith) (omega arith))
+
+line-length : (a : Answer (ℕ × ℕ)) → length (lineOf a) ≤ 12
+unfolding lineOf
+line-length (given x) = simp length-append (omega (arith, decimal-length (x .0), decimal-length (x .1)))
+line-length (refusal n d) = simp length-append (omega (arith, decimal-length n))
+
+-- every row and column is below 1,000
+turn-lt : (t : Bool) (n x y : ℕ) → x < n → y < n → (turn t (x, y) .0 < n) × (turn t (x, y) .1 < n)
+turn-lt false n x y p q = (p, q)
+turn-lt true n x y p q = (q, p)
+
+pub place-small : (k r l i : ℕ) (z : ℕ × ℕ) → placeAnswer k r l i ≡ given z → (z .0 < 1000) × (z .1 < 1000)
+place-small k r l i z e =
+    let f = layoutAt k r in
+    let w = sane k r (place-legal k r l i z e) in
+    let p = placed-inside k r l i z e in
+    let x< = major-lt (f .side) (f .halves) (w .side-pos) (w .halves-pos) l i (p .0) in
+    let y< = minor-lt (f .side) (f .halves) (w .side-pos) (w .halves-pos) (f .spans) l i (p .1) in
+    let same = sym (p .2) in
+    rw same at (turn-lt (f .turned) 1000 (major (f .side) (f .halves) l i) (minor (f .side) (f .halves) l i) (omega arith) (omega arith))
+
+-- whole records print before what follows them, and one to three bytes `short record`
+pub printed-joined : (whole rest : List ℕ) → length whole % 4 ≡ 0 → printed (whole ++ rest) ≡ printed whole ++ printed rest
+unfolding printed
+printed-joined [] rest h = refl
+printed-joined (a ∷ []) rest h = absurd (omega arith)
+printed-joined (a ∷ b ∷ []) rest h = absurd (omega arith)
+printed-joined (a ∷ b ∷ c ∷ []) rest h = absurd (omega arith)
+printed-joined (a ∷ b ∷ c ∷ d ∷ whole) rest h =
+    ap (λ (l : List ℕ). lineOf (placeAnswer a b c d) ++ l) (printed-joined whole rest (omega arith))
+    ∙ sym (append-assoc (lineOf (placeAnswer a b c d)) (printed whole) (printed rest))
+
+printed-short : (xs : List ℕ) → 0 < length xs → length xs < 4 → printed xs ≡ shortText
+unfolding printed
+printed-short [] a b = absurd (omega arith)
+printed-short (x ∷ []) a b = refl
+printed-short (x ∷ y ∷ []) a b = refl
+printed-short (x ∷ y ∷ z ∷ []) a b = refl
+printed-short (x ∷ y ∷ z ∷ t ∷ xs) a b = absurd (omega arith)
+
+-- the record that starts at byte n: its answer and its line
+abbrev answerAt : List ℕ → ℕ → Answer (ℕ × ℕ)
+answerAt xs n = placeAnswer (getD xs n 0) (getD xs (n + 1) 0) (getD xs (n + 2) 0) (getD xs (n + 3) 0)
+
+abbrev lineAt : List ℕ → ℕ → List ℕ
+lineAt xs n = lineOf (answerAt xs n)
+
+four : (xs : List ℕ) → 4 ≤ length xs → take 4 xs ≡ getD xs 0 0 ∷ getD xs 1 0 ∷ getD xs 2 0 ∷ getD xs 3 0 ∷ []
+four [] h = absurd (omega arith)
+four (x ∷ []) h = absurd (omega arith)
+four (x ∷ y ∷ []) h = absurd (omega arith)
+four (x ∷ y ∷ z ∷ []) h = absurd (omega arith)
+four (x ∷ y ∷ z ∷ t ∷ xs) h = refl
+
+-- after the first n bytes, which are whole records: the one to three bytes that are left, or one record more
+module _ (xs : List ℕ) (n : ℕ) (w : n % 4 ≡ 0) where
+  joined : n ≤ length xs → (rest : List ℕ) → printed (take n xs ++ rest) ≡ printed (take n xs) ++ printed rest
+  joined h rest = printed-joined (take n xs) rest (simp length-take (omega arith))
+
+  pub printed-rest : n < length xs → length xs < n + 4 → printed (take n xs) ++ shortText ≡ printed xs
+  printed-rest h l =
+      ap (λ (t : List ℕ). printed (take n xs) ++ t)
+      (sym (printed-short (drop n xs) (simp length-drop (omega arith)) (simp length-drop (omega arith))))
+      ∙ sym (joined (omega arith) (drop n xs))
+      ∙ ap printed (take-append-drop n xs)
+
+  record-at : n + 4 ≤ length xs → take 4 (drop n xs) ≡ getD xs n 0 ∷ getD xs (n + 1) 0 ∷ getD xs (n + 2) 0 ∷ getD xs (n + 3) 0 ∷ []
+  record-at h = four (drop n xs) (simp length-drop (omega arith)) ∙ simp (getD-drop, add-zero)
+
+  printed-more : n + 4 ≤ length xs → printed (take (n + 4) xs) ≡ printed (take n xs) ++ lineAt xs n
+  unfolding printed
+  printed-more h = rw (take-add n 4 xs, record-at h) (joined (omega arith) _ ∙ simp append-nil)
+
+-- one record more was put
+pub put-record : (xs : List ℕ) (i : ℕ) {ps qs rs : List ℕ} {m n : ℕ} → 4 * i + 4 ≤ length xs → m ≤ 12 * i
+    → Put (printed (take (4 * i) xs)) ps 0 qs m → Put (lineAt xs (4 * i)) qs m rs n
+    → (n ≤ 12 * (i + 1)) × Put (printed (take (4 * (i + 1)) xs)) ps 0 rs n
+put-record xs i h l p q =
+    let more : 4 * (i + 1) ≡ 4 * i + 4 = omega arith in
+    (omega (arith, line-length (answerAt xs (4 * i))), rw (more, printed-more xs (4 * i) (omega arith) h) (put-put p q))

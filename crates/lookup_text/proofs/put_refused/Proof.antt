@@ -1,0 +1,40 @@
+-- The three texts of the line, one after another. Assumes nothing.
+use borrow.Author.Needs.{needs}
+use Rattle.lookup_text.specs.Text.{lineOf}
+use Rattle.lookup_text.proofs.Laws.{put-put, put-ends, decimal-length}
+use Rattle.lookup_text.proofs.put_refused.Statement.{statement}
+use Rattle.lookup_text.proofs.put_refused.Tie as tie
+
+slice-aggregate-put-text : tie.Need-slice-aggregate-put-text
+slice-aggregate-put-text c = search needs
+
+put-text-requires : tie.Need-put-text-requires
+put-text-requires c κs = search needs
+
+put-decimal-requires : tie.Need-put-decimal-requires
+put-decimal-requires c κs = search needs
+
+put-requires : tie.Need-put-requires
+put-requires c κs = let few = put-ends (c .before .before .before .put-decimal .ensures) 3 (decimal-length _) in search needs
+
+same-length : tie.Need-same-length
+same-length c = search needs
+
+returns : tie.Need-returns
+unfolding lineOf
+returns c =
+    let p = c .before .before in
+    let q = p .before .before .before .before in
+    let r = q .before .before .before .before in
+    put-put (r .put-text .ensures) (put-put (q .put-decimal .ensures) (p .put .ensures))
+
+pub put-refused-spec : {M : Type 1} → statement M
+put-refused-spec =
+    tie.close
+    (tie.spec
+    slice-aggregate-put-text
+    put-text-requires
+    put-decimal-requires
+    put-requires
+    same-length
+    returns)

@@ -1,0 +1,124 @@
+// What the lookup program prints for its input: a line for each record of four bytes.
+ghost use mathlib.Core.List.{[], _∷_};
+ghost use mathlib.Core.Path.{_≡_};
+ghost use Prim.Native.Nat.{_+_, _*_, _/_, _<_, _≤_};
+ghost use lib.ListN.{length, take};
+ghost use Rattle.answers.specs.Refusals.{given, refusal};
+ghost use Rattle.kinds.specs.PlaceCalls.{placeAnswer};
+ghost use Rattle.lookup_text.specs.Text.{decimal, lineOf, printed, Put};
+use kinds::Column;
+use kinds::Element;
+use kinds::Kind;
+use kinds::Lane;
+use kinds::Placed;
+use kinds::Role;
+use kinds::Row;
+
+// Each `put` puts a text into out at a place, and answers the place after it.
+fn put(out: &mut [u8], at: usize, b: u8) -> usize
+    requires { ⌜ at + 1 ≤ length (now out) ⌝ }
+    ensures { λ r. ⌜ Put (b ∷ []) (now (out .entry)) at (now (out .exit)) r ⌝ }
+{
+    out[at] = b;
+    at + 1
+}
+
+fn put_text(out: &mut [u8], at: usize, text: &[u8]) -> usize
+    requires { ⌜ at + length (now text) ≤ length (now out) ⌝ }
+    ensures { λ r. ⌜ Put (now (text .entry)) (now (out .entry)) at (now (out .exit)) r ⌝ }
+{
+    let mut i = 0;
+    while i < text.len() {
+        out[at + i] = text[i];
+        i += 1;
+    }
+    at + i
+}
+
+fn put_digit(out: &mut [u8], at: usize, n: u32) -> usize
+    requires { ⌜ (at + 1 ≤ length (now out)) × (n < 10) ⌝ }
+    ensures { λ r. ⌜ Put ((48 + n) ∷ []) (now (out .entry)) at (now (out .exit)) r ⌝ }
+{
+    put(out, at, 48 + n as u8)
+}
+
+fn put_decimal(out: &mut [u8], at: usize, n: u32) -> usize
+    requires { ⌜ (at + 3 ≤ length (now out)) × (n < 1000) ⌝ }
+    ensures { λ r. ⌜ Put (decimal n) (now (out .entry)) at (now (out .exit)) r ⌝ }
+{
+    if n < 10 {
+        return put_digit(out, at, n);
+    }
+    if n < 100 {
+        let next = put_digit(out, at, n / 10);
+        return put_digit(out, next, n % 10);
+    }
+    let next = put_digit(out, at, n / 100);
+    let last = put_digit(out, next, n / 10 % 10);
+    put_digit(out, last, n % 10)
+}
+
+fn put_place(out: &mut [u8], at: usize, row: Row, column: Column) -> usize
+    requires { ⌜ (at + 8 ≤ length (now out)) × (row .0 < 1000) × (column .0 < 1000) ⌝ }
+    ensures { λ r. ⌜ Put (lineOf (given (row .0, column .0))) (now (out .entry)) at (now (out .exit)) r ⌝ }
+{
+    let x = row.0;
+    let y = column.0;
+    let after_row = put_decimal(out, at, x);
+    let after_space = put(out, after_row, b' ');
+    let after_column = put_decimal(out, after_space, y);
+    put(out, after_column, b'\n')
+}
+
+fn put_refused(out: &mut [u8], at: usize, number: u32) -> usize
+    requires { ⌜ (at + 12 ≤ length (now out)) × (number < 1000) ⌝ }
+    ensures { λ r. ⌜ Put (lineOf (refusal number 0)) (now (out .entry)) at (now (out .exit)) r ⌝ }
+{
+    let after_text = put_text(out, at, b"refused ");
+    let after_number = put_decimal(out, after_text, number);
+    put(out, after_number, b'\n')
+}
+
+// The line of one record.
+pub fn put_line(out: &mut [u8], at: usize, kind: u8, role: u8, lane: u8, element: u8) -> usize
+    requires { ⌜ at + 12 ≤ length (now out) ⌝ }
+    ensures { λ r. ⌜ Put (lineOf (placeAnswer kind role lane element)) (now (out .entry)) at (now (out .exit)) r ⌝ }
+{
+    match kinds::place(
+        Kind(kind as u32),
+        Role(role as u32),
+        Lane(lane as u32),
+        Element(element as u32),
+    ) {
+        Placed::At(row, column) => put_place(out, at, row, column),
+        Placed::Refused(x) => put_refused(out, at, x.number()),
+    }
+}
+
+// All that is printed for a part of the input that ends at a whole record or at the end of the input; the answer is the text's length.
+// The second `ensures` is what `&out[..r]` asks of its caller.
+pub fn put_lines(records: &[u8], out: &mut [u8]) -> usize
+    requires { ⌜ 13 * (length (now records) / 4 + 1) ≤ length (now out) ⌝ }
+    ensures { λ r. ⌜ Put (printed (now (records .entry))) (now (out .entry)) 0 (now (out .exit)) r ⌝ }
+    ensures { λ r. ⌜ (r ≤ length (now (out .exit))) × (r ≡ length (take r (now (out .exit)))) ⌝ }
+{
+    let whole = records.len() / 4;
+    let mut at = 0;
+    let mut i = 0;
+    while i < whole {
+        let from = 4 * i;
+        at = put_line(
+            out,
+            at,
+            records[from],
+            records[from + 1],
+            records[from + 2],
+            records[from + 3],
+        );
+        i += 1;
+    }
+    if 4 * whole < records.len() {
+        at = put_text(out, at, b"short record\n");
+    }
+    at
+}

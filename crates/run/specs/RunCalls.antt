@@ -1,0 +1,57 @@
+-- Document 01, 'Refusal numbers': open 1, 3, 4, 5 (C); feed 10, 9, 5 (A, B); read 10, 5 (D). Assumes nothing.
+use Prim.Native.Nat.{ℕ}
+use mathlib.Core.List.{List, [], _∷_}
+use lib.ListN.{length}
+use Rattle.answers.specs.Refusals.{Answer}
+use Rattle.answers.specs.Tests.{Test, over, reaches, differs, either}
+use Rattle.answers.specs.Calls.{Line, _when_, _at_when_, _then_, first, Call}
+use Rattle.buffers.specs.Buffers.{wordsNeeded}
+use Rattle.step.specs.StepCalls.{unready, selectorRefusals}
+use Rattle.run.specs.Runs.{openedRun, fedRun, usedOf}
+use Rattle.run.specs.declared.Run.{Run}
+
+-- at most 4,096 blocks
+abbrev pub maxBlocks : ℕ
+maxBlocks = 4096
+
+-- 9: the run already has 4,096 blocks
+abbrev pub fullRun : Run → Test
+fullRun run = reaches (run .blocks) maxBlocks
+
+-- 10: a run's kind is not arithmetic (1 to 5), its selectors break 4, or its count is over 4,096
+abbrev pub badRun : Run → Test
+badRun run = either (unready (run .kind .0) (run .signs .0) (run .mode .0)) (over (run .blocks) maxBlocks)
+
+-- by the lengths of the buffers
+abbrev pub openRefusals : (kind signs mode c : ℕ) → List Line
+openRefusals kind signs mode c = selectorRefusals kind signs mode then 5 at 0 when differs c (wordsNeeded kind 2) ∷ []
+
+abbrev pub feedRefusals : Run → (a b : ℕ) → List Line
+feedRefusals run a b =
+    10 when badRun run
+    ∷ 9 when fullRun run
+    ∷ 5 at 0 when differs a (wordsNeeded (run .kind .0) 0)
+    ∷ 5 at 1 when differs b (wordsNeeded (run .kind .0) 1)
+    ∷ []
+
+abbrev pub readRefusals : Run → (d : ℕ) → List Line
+readRefusals run d = 10 when badRun run ∷ 5 at 0 when differs d (wordsNeeded (run .kind .0) 2) ∷ []
+
+abbrev pub openCall : (kind signs mode : ℕ) (c : List ℕ) → Call Run
+openCall kind signs mode c = record { refusals = openRefusals kind signs mode (length c); gives = openedRun kind signs mode c }
+
+abbrev pub feedCall : (run : Run) (a b : List ℕ) → Call Run
+feedCall run a b = record { refusals = feedRefusals run (length a) (length b); gives = fedRun run a b }
+
+-- a read gives D, and the run as it was
+abbrev pub readCall : (run : Run) (d : List ℕ) → Call (List ℕ × Run)
+readCall run d = record { refusals = readRefusals run (length d); gives = (usedOf run, run) }
+
+unfoldable pub openAnswer : (kind signs mode c : ℕ) → Answer (Unit {0})
+openAnswer kind signs mode c = first (openRefusals kind signs mode c) tt
+
+unfoldable pub feedAnswer : Run → (a b : ℕ) → Answer (Unit {0})
+feedAnswer run a b = first (feedRefusals run a b) tt
+
+unfoldable pub readAnswer : Run → (d : ℕ) → Answer (Unit {0})
+readAnswer run d = first (readRefusals run d) tt

@@ -1,0 +1,215 @@
+// The integer kinds: an exact sum costs one multiply a product. With digits that stand too high by ha and hb, the sum of the products is
+// (the sum of the digits' products + n ha hb) - (ha times the sum of B's digits + hb times the sum of A's): two naturals.
+ghost use mathlib.Core.Path.{_≡_};
+ghost use mathlib.Core.Logic.{_⊎_};
+ghost use Prim.Native.Nat.{ℕ, _+_, _*_, _-_, _^_, _<_, _≤_};
+ghost use lib.ListN.{length, getD};
+ghost use Rattle.laws.specs.Fields.{field, joined};
+ghost use Rattle.laws.specs.Toward.{stores, Brings, Below, At};
+ghost use Rattle.kinds.specs.Kinds.{lanes};
+ghost use Rattle.buffers.specs.Stretches.{stretchesOf, OfLane, OfQuad};
+ghost use Rattle.step_products.specs.Sums.{Dots, straight, masked, Digits, Digitised, Summable, digitsWords};
+use buffers::Quad;
+use buffers::Stretch;
+use kinds::Element;
+use kinds::Lane;
+use kinds::Layout;
+use kinds::Layouts;
+use kinds::Mode;
+
+// How far the digits of A and of B stand too high.
+pub struct Offsets {
+    pub a: u32,
+    pub b: u32,
+}
+
+// A number as the difference of two.
+pub struct Split {
+    pub plus: u32,
+    pub minus: u32,
+}
+
+// Of two rows of digits: the sum of their products, and the sum of each.
+pub struct Dot {
+    pub products: u32,
+    pub a: u32,
+    pub b: u32,
+}
+
+// One product of two digits.
+fn product(x: u32, y: u32) -> u32
+    requires { ⌜ (x < 256) × (y < 256) ⌝ }
+    ensures is { λ r. ⌜ r ≡ x * y ⌝ }
+    ensures small { λ r. ⌜ r ≤ 65025 ⌝ }
+{
+    x * y
+}
+
+fn wide(x: u8) -> u32
+    ensures { λ r. ⌜ (r ≡ x) × (r < 256) ⌝ }
+{
+    x as u32
+}
+
+// The sums of n digits from i on and n from j on.
+fn dot_of(x: &[u8; 1024], y: &[u8; 1024], i: usize, j: usize, n: usize) -> Dot
+    requires { ⌜ (n ≤ 64) × (i + n ≤ 1024) × (j + n ≤ 1024) ⌝ }
+    ensures { λ r. ⌜ Dots n (λ k. getD (now (x .entry)) (i + k) 0) (λ k. getD (now (y .entry)) (j + k) 0) r ⌝ }
+{
+    let mut products: u32 = 0;
+    let mut a: u32 = 0;
+    let mut b: u32 = 0;
+    for k in 0..n {
+        let u = wide(x[i + k]);
+        let v = wide(y[j + k]);
+        products += product(u, v);
+        a += u;
+        b += v;
+    }
+    Dot { products, a, b }
+}
+
+// The exact sum of n products, from the sums of their digits.
+fn exact(s: Dot, n: usize, h: Offsets) -> Split
+    requires { ⌜ (n ≤ 64) × (h .a ≤ 128) × (h .b ≤ 128) × (s .products ≤ 65025 * 64) × (s .a ≤ 255 * 64) × (s .b ≤ 255 * 64) ⌝ }
+    ensures is { λ r. ⌜ (r .plus ≡ s .products + n * (h .a * h .b)) × (r .minus ≡ h .a * s .b + h .b * s .a) ⌝ }
+    ensures small { λ r. ⌜ (r .plus ≤ 8388608) × (r .minus ≤ 8388608) ⌝ }
+{
+    Split {
+        plus: s.products + n as u32 * (h.a * h.b),
+        minus: h.a * s.b + h.b * s.a,
+    }
+}
+
+fn word(x: u32) -> u64
+    ensures { λ r. ⌜ r ≡ x ⌝ }
+{
+    x as u64
+}
+
+// The word whose every field is the offset.
+fn mask_of(bits: usize, side: usize, offset: u64) -> u32
+    requires { ⌜ (bits * side ≤ 32) × (side ≤ 32) × (offset < 2 ^ bits) ⌝ }
+    ensures { λ r. ⌜ r ≡ joined bits side (λ j. offset) ⌝ }
+{
+    let mut sum: u64 = 0;
+    let mut j = 0;
+    while j < side {
+        sum = (offset << (bits * j)) + sum;
+        j += 1;
+    }
+    sum as u32
+}
+
+// The fields of a word, from base on.
+fn digits_of(out: &mut [u8; 1024], word: u64, bits: usize, side: usize, base: usize)
+    requires { ⌜ (bits * side ≤ 32) × (bits ≤ 8) × (side ≤ 32) × (base + side ≤ 1024) × (length (now out) ≡ 1024) ⌝ }
+    ensures { λ _. ⌜ now (out .exit) ≡ stores base 1 side (λ j. field bits j word) (now (out .entry)) ⌝ }
+{
+    for j in 0..side {
+        out[base + j] = buffers::field_of(word, bits, j) as u8;
+    }
+}
+
+// One stretch of a lane, with the sign bits of its word turned over.
+fn digits_lane(
+    words: &[u32],
+    out: &mut [u8; 1024],
+    f: Layout,
+    mask: u32,
+    stretch: Stretch,
+    lane: Lane,
+)
+    requires { ⌜ Digitised f (now words) (now out) × (stretch .0 < stretchesOf f) × (lane .0 < lanes) ⌝ }
+    ensures { λ _. ⌜ Brings (masked f mask (now (words .entry))) (OfLane f (f .side) (stretch .0) (lane .0)) (now (out .entry)) (now (out .exit)) ⌝ }
+{
+    let base = buffers::base_of(f, stretch, lane);
+    let k = lane.0 as usize * f.words + stretch.0;
+    let turned = word(words[k] ^ mask);
+    digits_of(out, turned, f.bits, f.side, base);
+}
+
+// The same stretch of a quad's lanes, and of every quad's.
+fn digits_quad(
+    words: &[u32],
+    out: &mut [u8; 1024],
+    f: Layout,
+    mask: u32,
+    stretch: Stretch,
+    quad: Quad,
+)
+    requires { ⌜ Digitised f (now words) (now out) × (stretch .0 < stretchesOf f) × (quad .0 < 8) ⌝ }
+    ensures { λ _. ⌜ Brings (masked f mask (now (words .entry))) (OfQuad f (f .side) (stretch .0) (quad .0)) (now (out .entry)) (now (out .exit)) ⌝ }
+{
+    for t in 0..Lane::QUAD {
+        digits_lane(words, out, f, mask, stretch, quad.lane(t));
+    }
+}
+
+fn digits_quads(words: &[u32], out: &mut [u8; 1024], f: Layout, mask: u32, stretch: Stretch)
+    requires { ⌜ Digitised f (now words) (now out) × (stretch .0 < stretchesOf f) ⌝ }
+    ensures { λ _. ⌜ Brings (masked f mask (now (words .entry))) (Below 8 (OfQuad f (f .side) (stretch .0))) (now (out .entry)) (now (out .exit)) ⌝ }
+{
+    for quad in 0..Quad::COUNT {
+        digits_quad(words, out, f, mask, stretch, Quad(quad));
+    }
+}
+
+// The digits of a side by its major and minor numbers, of A by rows and of B by columns: the matrix of the layout that is not turned. An
+// offset is nothing or a sign bit's weight, and to add that is to turn the bit over.
+pub fn digits(words: &[u32], out: &mut [u8; 1024], side: Layout, offset: u64)
+    requires { ⌜ Digitised (straight side) (now words) (now out) × ((offset ≡ 0) ⊎ (offset ≡ 2 ^ (side .bits - 1))) ⌝ }
+    ensures { λ _. ⌜ Digits side offset (now (words .entry)) (now (out .exit)) ⌝ }
+{
+    let mut f = side;
+    f.turned = false;
+    let mask = mask_of(f.bits, f.side, offset);
+    for stretch in 0..buffers::stretches_in(f) {
+        digits_quads(words, out, f, mask, Stretch(stretch));
+    }
+}
+
+// The words of D that a lane holds.
+fn lane_cells(
+    l: Layouts,
+    mode: Mode,
+    h: Offsets,
+    x: &[u8; 1024],
+    y: &[u8; 1024],
+    c: &[u32],
+    d: &mut [u32],
+    lane: Lane,
+)
+    requires { ⌜ Summable l (mode .0) h (now c) (now d) × (lane .0 < lanes) ⌝ }
+    ensures { λ _. ⌜ Brings (digitsWords l (mode .0) h (now (x .entry)) (now (y .entry)) (now (c .entry))) (Below (l .c .words) (λ i. At (lane .0 * l .c .words + i))) (now (d .entry)) (now (d .exit)) ⌝ }
+{
+    let f = l.a;
+    let g = l.c;
+    let n = f.spans * Lane::QUAD * f.side;
+    for i in 0..g.words {
+        let element = Element(i as u32);
+        let row = kinds::rule::across(2, g.halves, lane, element);
+        let column = kinds::rule::along(2, g.halves, lane, element);
+        let s = exact(dot_of(x, y, row * n, column * n, n), n, h);
+        let k = lane.0 as usize * g.words + i;
+        d[k] = step_limit::limited(mode, c[k], s.plus, s.minus);
+    }
+}
+
+// Every word of D, lane by lane.
+pub fn cells(
+    l: Layouts,
+    mode: Mode,
+    h: Offsets,
+    x: &[u8; 1024],
+    y: &[u8; 1024],
+    c: &[u32],
+    d: &mut [u32],
+)
+    requires { ⌜ Summable l (mode .0) h (now c) (now d) ⌝ }
+    ensures { λ _. ⌜ now (d .exit) ≡ digitsWords l (mode .0) h (now (x .entry)) (now (y .entry)) (now (c .entry)) ⌝ }
+{
+    for lane in 0..Lane::COUNT {
+        lane_cells(l, mode, h, x, y, c, d, Lane(lane as u32));
+    }
+}
