@@ -1,13 +1,14 @@
 //! The three implementations on the same random input, legal and not: the same answer, and the same
 //! in every buffer afterwards, or nothing is measured.
 
-use crate::calls::{Calls, Run};
-use crate::plain::{Layout, MAX_BLOCKS, RUN_WORDS};
+use crate::calls::NAMES;
+use crate::plain::Layout;
 use crate::random::Random;
+use crate::wazimroot::{Calls, Run, Table, MAX_BLOCKS, RUN_WORDS};
 
 const TRIALS: usize = 20_000;
 
-pub fn agree(calls: &[Calls], random: &mut Random) {
+pub fn agree(calls: &[Table], random: &mut Random) {
     for _ in 0..TRIALS {
         unpacks(calls, random);
         packs(calls, random);
@@ -17,17 +18,17 @@ pub fn agree(calls: &[Calls], random: &mut Random) {
     }
 }
 
-fn same<T: PartialEq>(call: &str, calls: &[Calls], told: impl Fn(&Calls) -> T) {
+fn same<T: PartialEq>(call: &str, calls: &[Table], told: impl Fn(&Table) -> T) {
     let first = told(&calls[0]);
-    for other in &calls[1..] {
+    for (other, name) in calls.iter().zip(NAMES).skip(1) {
         if told(other) != first {
-            eprintln!("{call}: {} and {} differ", calls[0].name, other.name);
+            eprintln!("{call}: {} and {name} differ", NAMES[0]);
             std::process::exit(1);
         }
     }
 }
 
-fn unpacks(calls: &[Calls], random: &mut Random) {
+fn unpacks(calls: &[Table], random: &mut Random) {
     let (kind, role) = (random.below(12), random.below(4));
     let l = some_layout(kind, role);
     let n = some_length(random, l.warp_length());
@@ -40,7 +41,7 @@ fn unpacks(calls: &[Calls], random: &mut Random) {
     });
 }
 
-fn packs(calls: &[Calls], random: &mut Random) {
+fn packs(calls: &[Table], random: &mut Random) {
     let (kind, role) = (random.below(12), random.below(4));
     let l = some_layout(kind, role);
     let m = some_length(random, l.matrix_length());
@@ -56,18 +57,18 @@ fn packs(calls: &[Calls], random: &mut Random) {
     });
 }
 
-fn steps(calls: &[Calls], random: &mut Random) {
+fn steps(calls: &[Table], random: &mut Random) {
     let selectors = some_selectors(random);
-    let [a, b, c, before] = [0, 1, 2, 2].map(|role| some_warp(random, selectors.0, role));
+    let [a, b, c, before] = [0, 1, 2, 2].map(|role| some_warp(random, selectors[0], role));
     same("step", calls, |calls| {
         let mut d = before.clone();
         (calls.step(selectors, &a, &b, &c, &mut d), d)
     });
 }
 
-fn runs(calls: &[Calls], random: &mut Random) {
+fn runs(calls: &[Table], random: &mut Random) {
     let selectors = some_selectors(random);
-    let [a, b, c, before] = [0, 1, 2, 2].map(|role| some_warp(random, selectors.0, role));
+    let [a, b, c, before] = [0, 1, 2, 2].map(|role| some_warp(random, selectors[0], role));
     let by_hand = some_run(random, selectors);
     same("open", calls, |calls| {
         let mut run = by_hand;
@@ -83,7 +84,7 @@ fn runs(calls: &[Calls], random: &mut Random) {
     });
 }
 
-fn scales(calls: &[Calls], random: &mut Random) {
+fn scales(calls: &[Table], random: &mut Random) {
     let selectors = [6, 3, 5, 5].map(|limit| random.below(limit));
     let nm = some_length(random, 32);
     let metadata = random.words(nm);
@@ -111,7 +112,7 @@ fn some_length(random: &mut Random, right: usize) -> usize {
 }
 
 /// Kind, signs and mode, mostly of the arithmetic kinds.
-fn some_selectors(random: &mut Random) -> (u32, u32, u32) {
+fn some_selectors(random: &mut Random) -> [u32; 3] {
     let kind = match random.below(16) {
         0 => random.below(12),
         _ => 1 + random.below(5),
@@ -124,7 +125,7 @@ fn some_selectors(random: &mut Random) -> (u32, u32, u32) {
         0 => 2,
         _ => random.below(2),
     };
-    (kind, signs, mode)
+    [kind, signs, mode]
 }
 
 /// A warp buffer whose words are random or, so that totals reach the limits, extreme.
@@ -146,7 +147,7 @@ fn extreme(word: u32) -> u32 {
     }
 }
 
-fn some_run(random: &mut Random, (kind, signs, mode): (u32, u32, u32)) -> Run {
+fn some_run(random: &mut Random, [kind, signs, mode]: [u32; 3]) -> Run {
     let mut run = [0; RUN_WORDS];
     run.copy_from_slice(&random.words(RUN_WORDS));
     let blocks = MAX_BLOCKS + 1 - random.below(4);

@@ -1,8 +1,8 @@
 //! What is measured. Each case has several random inputs and takes them in turn.
 
-use crate::calls::{Calls, Run};
-use crate::plain::{Layout, MAX_BLOCKS, RUN_WORDS};
+use crate::plain::Layout;
 use crate::random::Random;
+use crate::wazimroot::{Calls, Table, MAX_BLOCKS, RUN_WORDS};
 
 /// Few enough that the inputs of a case stay in the cache.
 const INPUTS: usize = 8;
@@ -10,11 +10,11 @@ const INPUTS: usize = 8;
 pub struct Case {
     pub name: String,
     /// Makes so many calls, each of which has to be accepted.
-    pub repeat: Box<dyn FnMut(&Calls, usize)>,
+    pub repeat: Box<dyn FnMut(&Table, usize)>,
 }
 
-fn case(name: String, mut call: impl FnMut(&Calls, usize) -> u64 + 'static) -> Case {
-    let repeat = move |calls: &Calls, count: usize| {
+fn case(name: String, mut call: impl FnMut(&Table, usize) -> u64 + 'static) -> Case {
+    let repeat = move |calls: &Table, count: usize| {
         for turn in 0..count {
             assert_eq!(call(calls, turn % INPUTS), 0, "a measured call is refused");
         }
@@ -80,7 +80,7 @@ fn step(random: &mut Random, kind: u32, signs: u32, mode: u32) -> Case {
     let name = format!("step of kind {kind}, {}", selectors(kind, signs, mode));
     case(name, move |calls, turn| {
         let [a, b, c] = &warps[turn];
-        calls.step((kind, signs, mode), a, b, c, &mut d)
+        calls.step([kind, signs, mode], a, b, c, &mut d)
     })
 }
 
@@ -90,13 +90,13 @@ fn run(random: &mut Random, mode: u32) -> Case {
     let blocks = inputs(|_| [0, 1].map(|role| warp(random, kind, role)));
     let c = warp(random, kind, 2);
     let mut d = c.clone();
-    let mut run: Run = [0; RUN_WORDS];
+    let mut run = [0; RUN_WORDS];
     let name = format!(
         "run of 4,096 blocks of kind 3, {}",
         selectors(kind, 0, mode)
     );
     case(name, move |calls, _| {
-        let mut refused = calls.open((kind, 0, mode), &c, &mut run);
+        let mut refused = calls.open([kind, 0, mode], &c, &mut run);
         for block in 0..MAX_BLOCKS as usize {
             let [a, b] = &blocks[block % INPUTS];
             refused |= calls.feed(&mut run, a, b);

@@ -8,8 +8,9 @@ mod clock;
 mod lookups;
 mod plain;
 mod random;
+#[path = "../include/wazimroot.rs"]
+mod wazimroot;
 
-use calls::Calls;
 use cases::Case;
 use clock::processor_time;
 use lookups::Lookups;
@@ -18,6 +19,7 @@ use std::io;
 use std::path::{Path, PathBuf};
 use std::process::Stdio;
 use std::time::{Duration, Instant};
+use wazimroot::Table;
 
 /// A round is long against the clock's grain and short against what else the machine does.
 const ROUND: Duration = Duration::from_micros(100);
@@ -29,12 +31,12 @@ fn main() -> io::Result<()> {
     let words: Vec<PathBuf> = std::env::args_os().skip(1).map(PathBuf::from).collect();
     let [lookup, plain_lookup, folder]: [PathBuf; 3] = words.try_into().expect("three paths");
     let random = &mut Random::new();
-    let calls = calls::all();
-    agree::agree(&calls, random);
+    let tables = calls::all();
+    agree::agree(&tables, random);
     println!("| call | library | gcc -O3 | rustc -O | ratio |");
     println!("|---|---:|---:|---:|---:|");
     for case in &mut cases::all(random) {
-        let [library, c, rust] = measure(&calls, case);
+        let [library, c, rust] = measure(&tables, case);
         print_row(&case.name, library, c, Some(rust));
     }
     compare_lookups([lookup, plain_lookup], &folder, random)
@@ -63,10 +65,10 @@ fn compare_lookups(programs: [PathBuf; 2], folder: &Path, random: &mut Random) -
 }
 
 /// Microseconds a call of each implementation.
-fn measure(calls: &[Calls; 3], case: &mut Case) -> [f64; 3] {
+fn measure(tables: &[Table; 3], case: &mut Case) -> [f64; 3] {
     let mut timed = |which: usize, count: usize| {
         let began = processor_time();
-        (case.repeat)(&calls[which], count);
+        (case.repeat)(&tables[which], count);
         processor_time() - began
     };
     let mut count = 1;

@@ -2,6 +2,10 @@
 //! kinds, no proofs, nothing tuned by hand. Each call takes what the library's call takes, gives
 //! the same answer, refuses the same and writes the same.
 
+use crate::wazimroot::{
+    BAD_RUN, BAD_SCALE, BAD_SELECTORS, MAX_BLOCKS, NOT_ARITHMETIC, RUN_FULL, RUN_WORDS, TOO_WIDE,
+    UNKNOWN_KIND, UNKNOWN_ROLE, WRONG_LENGTH,
+};
 use std::slice::{from_raw_parts, from_raw_parts_mut};
 
 const LANES: usize = 32;
@@ -19,19 +23,6 @@ const ARITHMETIC_KINDS: u32 = 5;
 const MAX_M: usize = 16;
 const MAX_K: usize = 64;
 const N: usize = 8;
-
-pub const RUN_WORDS: usize = 132;
-pub const MAX_BLOCKS: u32 = 4096;
-
-const UNKNOWN_KIND: u32 = 1;
-const UNKNOWN_ROLE: u32 = 2;
-const NOT_ARITHMETIC: u32 = 3;
-const BAD_SELECTORS: u32 = 4;
-const WRONG_LENGTH: u32 = 5;
-const TOO_WIDE: u32 = 7;
-const BAD_SCALE: u32 = 8;
-const RUN_FULL: u32 = 9;
-const BAD_RUN: u32 = 10;
 
 /// Shape, bits of an element of A or B and of C or D, words a lane for each role.
 struct Kind {

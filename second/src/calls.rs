@@ -1,27 +1,9 @@
-//! The calls of the C interface, as the library and the rules both answer them: 0 where accepted,
-//! otherwise the refusal's number in the low 32 bits and its detail in the high 32.
+//! The calls of the C interface as the rules answer them.
 
 use crate::layout::Layouts;
 use crate::report::Difference;
-use crate::run::{self, WORDS};
-use crate::{bits, refusals, scale, step, template};
-
-pub trait Calls {
-    fn place(&self, kind: u32, role: u32, lane: u32, element: u32, out: &mut [u32; 2]) -> u64;
-    fn find(&self, kind: u32, role: u32, row: u32, column: u32, out: &mut [u32; 2]) -> u64;
-    fn unpack(&self, kind: u32, role: u32, words: &[u32], matrix: &mut [u64]) -> u64;
-    fn pack(&self, kind: u32, role: u32, matrix: &[u64], words: &mut [u32]) -> u64;
-    /// The selector is kind, signs, mode.
-    fn step(&self, selector: [u32; 3], a: &[u32], b: &[u32], c: &[u32], d: &mut [u32]) -> u64;
-    fn plain_step(&self, kind: u32, a: &[u32], b: &[u32], c: &[u32], d: &mut [u32]) -> u64;
-    fn open(&self, selector: [u32; 3], c: &[u32], run: &mut [u32; WORDS]) -> u64;
-    fn feed(&self, run: &mut [u32; WORDS], a: &[u32], b: &[u32]) -> u64;
-    fn read(&self, run: &[u32; WORDS], d: &mut [u32]) -> u64;
-    /// The selector is size, side, byte-id, thread-id.
-    fn scale(&self, selector: [u32; 4], metadata: &[u32], out: &mut [i32]) -> u64;
-    fn template_read(&self, record: &[u8], words: &mut [u32]) -> u64;
-    fn template_write(&self, words: &[u32], record: &mut [u8]) -> u64;
-}
+use crate::wazimroot::{Calls, Run};
+use crate::{bits, refusals, run, scale, step, template};
 
 /// The second program's own answers.
 pub struct Rules {
@@ -86,15 +68,15 @@ impl Calls for Rules {
         self.step([kind, 0, 0], a, b, c, d)
     }
 
-    fn open(&self, selector: [u32; 3], c: &[u32], run: &mut [u32; WORDS]) -> u64 {
+    fn open(&self, selector: [u32; 3], c: &[u32], run: &mut Run) -> u64 {
         run::open(&self.layouts, selector, c, run)
     }
 
-    fn feed(&self, run: &mut [u32; WORDS], a: &[u32], b: &[u32]) -> u64 {
+    fn feed(&self, run: &mut Run, a: &[u32], b: &[u32]) -> u64 {
         run::feed(&self.layouts, run, a, b)
     }
 
-    fn read(&self, run: &[u32; WORDS], d: &mut [u32]) -> u64 {
+    fn read(&self, run: &Run, d: &mut [u32]) -> u64 {
         run::read(&self.layouts, run, d)
     }
 

@@ -1,8 +1,8 @@
 //! "Bench figures", asked of the library and of the rules alike.
 
-use crate::calls::Calls;
 use crate::report::{shown, Difference, Tally};
 use crate::run::WORDS;
+use crate::wazimroot::Calls;
 
 /// Kind, role, lane, element; row, column.
 const PLACES: [([u32; 4], [u32; 2]); 9] = [

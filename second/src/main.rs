@@ -9,8 +9,6 @@ mod compare;
 mod fence;
 mod figures;
 mod layout;
-#[allow(unsafe_code)]
-mod library;
 mod random;
 mod refusals;
 mod report;
@@ -20,13 +18,16 @@ mod scale;
 mod step;
 mod template;
 mod values;
+#[allow(unsafe_code)]
+#[path = "../../include/wazimroot.rs"]
+mod wazimroot;
 
 use calls::Rules;
 use compare::{fragments, lengths, orders, places, runs, scales, steps, templates, trips, Bench};
-use library::Library;
 use random::Random;
 use report::{Difference, Tally};
 use std::process::exit;
+use wazimroot::LIBRARY;
 
 const CASES: u64 = 100_000;
 const SEED: u64 = 20_260_101;
@@ -70,7 +71,7 @@ const COMPARISONS: [Comparison; 17] = [
 fn compare_all(cases: u64, seed: u64) -> Result<u64, Difference> {
     let rules = Rules::new()?;
     let mut bench = Bench {
-        library: &Library,
+        library: &LIBRARY,
         rules: &rules,
         random: Random::new(seed),
         seed,

@@ -1,5 +1,6 @@
 //! What the program prints: a line a call, or the first difference.
 
+use crate::wazimroot::{detail, number};
 use std::fmt;
 
 /// The first difference, shown whole.
@@ -26,7 +27,7 @@ impl fmt::Display for Difference {
 
 /// Number and detail of an answer, for reading.
 pub fn shown(answer: u64) -> String {
-    match (answer & 0xffff_ffff, answer >> 32) {
+    match (number(answer), detail(answer)) {
         (0, 0) => "accepted".to_string(),
         (number, detail) => format!("refused {number} detail {detail}"),
     }
@@ -51,7 +52,7 @@ impl Tally {
 
     /// Counts a case by its answer.
     pub fn count(&mut self, answer: u64) {
-        match (answer & 0xffff_ffff) as usize {
+        match number(answer) as usize {
             0 => self.accepted += 1,
             number => self.refused[number] += 1,
         }

@@ -3,9 +3,9 @@
 
 use crate::layout::Layouts;
 use crate::rules::C;
+pub use crate::wazimroot::RUN_WORDS as WORDS;
 use crate::{refusals, step};
 
-pub const WORDS: usize = 132;
 pub const MAX_BLOCKS: u32 = 4096;
 /// Where the sums begin.
 pub const HEAD: usize = 4;

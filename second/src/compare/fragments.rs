@@ -1,11 +1,11 @@
 //! wz_unpack and wz_pack.
 
 use super::Bench;
-use crate::calls::Calls;
 use crate::fence::{compare, Fenced};
 use crate::report::{Difference, Tally};
 use crate::rules::KINDS;
 use crate::values::{fill_matrix, fill_words, widen, Odds};
+use crate::wazimroot::Calls;
 
 pub fn wz_unpack(bench: &mut Bench) -> Result<Tally, Difference> {
     let mut words = Fenced::new("words");

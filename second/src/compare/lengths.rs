@@ -3,10 +3,10 @@
 //! machine has no addresses for one, its cases are left out and the line counts fewer.
 
 use super::Bench;
-use crate::calls::Calls;
 use crate::random::Word;
 use crate::report::{shown, Difference, Tally};
 use crate::run::WORDS;
+use crate::wazimroot::Calls;
 
 const PAST: usize = 1 << 32;
 

@@ -12,11 +12,12 @@ pub mod steps;
 pub mod templates;
 pub mod trips;
 
-use crate::calls::{Calls, Rules};
+use crate::calls::Rules;
 use crate::random::Random;
 use crate::report::{Difference, Tally};
 use crate::rules::{A, ARITHMETIC, B, C};
 use crate::values::Odds;
+use crate::wazimroot::Calls;
 
 /// Both sides, and where the cases come from.
 pub struct Bench<'a> {

@@ -3,12 +3,12 @@
 
 use super::plan::Plan;
 use super::{every_selector, Bench};
-use crate::calls::Calls;
 use crate::fence::{array, array_mut, compare, Fenced};
 use crate::random::Random;
 use crate::report::{shown, Difference, Tally};
 use crate::run::{HEAD, MAX_BLOCKS, WORDS};
 use crate::step::{self, SUMS};
+use crate::wazimroot::Calls;
 
 /// Blocks of a short run.
 const SHORT: usize = 30;

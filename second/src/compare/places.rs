@@ -1,10 +1,10 @@
 //! wz_place and wz_find, for every small number and some great ones.
 
 use super::Bench;
-use crate::calls::Calls;
 use crate::fence::{array_mut, compare, Fenced};
 use crate::random::Random;
 use crate::report::{Difference, Tally};
+use crate::wazimroot::Calls;
 
 const GREAT_KINDS: [u32; 8] = [255, 256, 257, 266, 65_537, 1 << 31, (1 << 31) + 3, u32::MAX];
 const GREAT_ROLES: [u32; 5] = [256, 257, 65_536, 1 << 31, u32::MAX];

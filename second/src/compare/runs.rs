@@ -1,12 +1,12 @@
 //! wz_open, wz_feed and wz_read, the latter two on runs made up by hand.
 
 use super::{right_selector, selector, step_lengths, Bench};
-use crate::calls::Calls;
 use crate::fence::{array, array_mut, compare, Fenced};
 use crate::random::Random;
 use crate::report::{Difference, Tally};
 use crate::run::{HEAD, WORDS};
 use crate::values::{fill_words, Odds};
+use crate::wazimroot::Calls;
 
 pub fn wz_open(bench: &mut Bench) -> Result<Tally, Difference> {
     let mut c = Fenced::new("C");

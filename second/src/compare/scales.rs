@@ -1,11 +1,11 @@
 //! wz_scale.
 
 use super::Bench;
-use crate::calls::Calls;
 use crate::fence::{compare, Fenced};
 use crate::random::Random;
 use crate::report::{Difference, Tally};
 use crate::values::{fill_words, Odds};
+use crate::wazimroot::Calls;
 
 /// Selectors with which nothing is wrong: size, side, byte-id, thread-id.
 fn right_selector(random: &mut Random) -> [u32; 4] {

@@ -1,12 +1,12 @@
 //! wz_step and wz_plain_step.
 
 use super::{every_selector, right_selector, selector, step_lengths, Bench};
-use crate::calls::Calls;
 use crate::fence::{compare, Fenced};
 use crate::random::Random;
 use crate::report::{Difference, Tally};
 use crate::rules::{A, B, C};
 use crate::values::{fill_words, Odds};
+use crate::wazimroot::Calls;
 
 /// The buffers of a step: A, B, C, D.
 type Buffers = [Fenced<u32>; 4];

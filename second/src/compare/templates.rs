@@ -1,11 +1,11 @@
 //! wz_template_read and wz_template_write.
 
 use super::Bench;
-use crate::calls::Calls;
 use crate::fence::{compare, Fenced};
 use crate::random::Random;
 use crate::report::{Difference, Tally};
 use crate::values::{fill_words, Odds};
+use crate::wazimroot::Calls;
 
 pub const RECORD: usize = 256;
 pub const WORDS: usize = 64;
