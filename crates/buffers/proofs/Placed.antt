@@ -7,10 +7,10 @@ use Rattle.kinds.specs.Kinds.{lanes, columnsAt, Legal}
 use Rattle.kinds.specs.Rule.{elementsOf, rowsOf, columnsOf, placeIn}
 use Rattle.kinds.specs.Workers.{Laid}
 use Rattle.answers.specs.Refusals.{given}
-use Rattle.kinds.specs.PlaceCalls.{placeAnswer}
+use Rattle.places.specs.PlaceCalls.{placeAnswer}
 use Rattle.kinds.specs.declared.Layout.{Layout}
 use Rattle.kinds.proofs.Table.{layoutAt, sane, rows-are, columns-are, bits-are, words-are}
-use Rattle.kinds.proofs.ByRule.{placed-inside, rule-placed, place-legal}
+use Rattle.places.proofs.ByRule.{placed-inside, rule-placed, place-legal}
 use Rattle.buffers.specs.Buffers.{elementAt, elementIn, index, wordsNeeded, entriesNeeded}
 
 module _ (k r : ℕ) (ok : Legal k r) where

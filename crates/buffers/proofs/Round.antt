@@ -17,7 +17,7 @@ use Rattle.kinds.specs.Rule.{elementsOf, majors, minors, rowsOf, columnsOf, tur
 use Rattle.kinds.specs.Workers.{Laid}
 use Rattle.kinds.specs.declared.Layout.{Layout}
 use Rattle.kinds.proofs.Digits.{lane-back, element-back, major-back, minor-back, lane-lt, element-lt, major-lt, minor-lt}
-use Rattle.kinds.proofs.ByRule.{turn-turn}
+use Rattle.places.proofs.ByRule.{turn-turn}
 use Rattle.buffers.specs.Buffers.{laneNumber, elementAt, index, entryAt, unpacked, wordAt, packed, Fitting}
 use Rattle.buffers.proofs.Elements.{turned-in}
 use Rattle.buffers.proofs.Places.{place-in, columns-pos}

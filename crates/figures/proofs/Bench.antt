@@ -8,7 +8,7 @@ use Rattle.laws.specs.Integers.{value, sumZ, int32, word32, clamp}
 use Rattle.laws.specs.Lists.{tab}
 use Rattle.kinds.specs.Places.{placeOf}
 use Rattle.kinds.specs.Rule.{laneOf, elementOf}
-use Rattle.kinds.specs.PlaceCalls.{placeAnswer, findAnswer}
+use Rattle.places.specs.PlaceCalls.{placeAnswer, findAnswer}
 use Rattle.step_limit.specs.Limits.{cellOf}
 use Rattle.step.specs.StepCalls.{stepAnswer}
 use Rattle.figures.specs.Figures.{Figure, place, find, step, Right, All, starred}

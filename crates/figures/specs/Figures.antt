@@ -8,7 +8,7 @@ use Rattle.laws.specs.Integers.{int32}
 use Rattle.laws.specs.Lists.{tab}
 use Rattle.kinds.specs.Kinds.{columnsAt, rowsAt}
 use Rattle.answers.specs.Refusals.{given}
-use Rattle.kinds.specs.PlaceCalls.{placeAnswer, findAnswer}
+use Rattle.places.specs.PlaceCalls.{placeAnswer, findAnswer}
 use Rattle.buffers.specs.Buffers.{wordsNeeded}
 use Rattle.step.specs.Step.{entryIn, stepped}
 use Rattle.step.specs.StepCalls.{stepAnswer}

@@ -2,5 +2,3 @@ pub mod Digits
 pub mod Table
 pub mod Whole
 pub mod Judged
-pub mod ByRule
-pub mod Promises

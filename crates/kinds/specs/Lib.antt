@@ -2,5 +2,4 @@ pub mod Kinds
 pub mod Places
 pub mod Rule
 pub mod Refusals
-pub mod PlaceCalls
 pub mod Workers

@@ -1,9 +1,9 @@
--- Document 01, 'Refusal numbers': the tests of kind, role, element and entry. Assumes nothing.
+-- Document 01, 'Refusal numbers': the tests of kind and role. Assumes nothing.
 use Prim.Native.Nat.{ℕ}
 use mathlib.Core.List.{List, [], _∷_}
-use Rattle.answers.specs.Tests.{Test, over, reaches, either, unless, within}
+use Rattle.answers.specs.Tests.{Test, over, unless, within}
 use Rattle.answers.specs.Calls.{Line, _when_}
-use Rattle.kinds.specs.Kinds.{kinds, lanes}
+use Rattle.kinds.specs.Kinds.{kinds}
 
 -- 1: kind not 1 to 10
 abbrev pub unknownKind : ℕ → Test
@@ -16,10 +16,3 @@ unknownRole r = over r 2
 -- 1 and 2 come before the rest in every call that names a kind and a role.
 abbrev pub layoutRefusals : (kind role : ℕ) → List Line
 layoutRefusals k r = 1 when unknownKind k ∷ 2 when unknownRole r ∷ []
-
--- 6: lane over 31, element past the last; row or column past the last
-abbrev pub elementOutside : (elements lane i : ℕ) → Test
-elementOutside elements lane i = either (reaches lane lanes) (reaches i elements)
-
-abbrev pub entryOutside : (rows columns row column : ℕ) → Test
-entryOutside rows columns row column = either (reaches row rows) (reaches column columns)

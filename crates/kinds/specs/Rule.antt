@@ -1,6 +1,13 @@
 -- One rule for every kind and role, over p, the elements that stand side by side, and h, the halves of eight rows: lane and element
 -- are digits, and so are the major and the minor number. For A, C and D the row is the major number and the column the minor one; for B
--- the other way round. proofs/Whole.antt ties it to document 01's rules. Assumes nothing.
+-- the other way round. proofs/Whole.antt ties it to document 01's rules. Its words:
+--   side     p, how many elements of a lane stand side by side in a row, or in B in a column
+--   halves   h, how many halves of eight rows the matrix has, or in B of eight columns
+--   spans    how often the four lanes of a quad, side by side, fit into a row
+--   major    the number that a quad has: the row, or in B the column
+--   minor    the number that runs along a quad's lanes: the column, or in B the row
+--   turned   the major number is the column
+-- Assumes nothing.
 use Prim.Native.Nat.{ℕ, _+_, _*_, _/_, _%_}
 use mathlib.Core.Bool.{Bool, true, false}
 use Rattle.laws.specs.Choice.{if_then_else_, _<?_}

@@ -1,12 +1,11 @@
 -- What the workers answer, and what they ask for. Assumes nothing.
 use Prim.Native.Nat.{ℕ, _*_, _/_, _<_, _≤_}
 use mathlib.Core.Path.{_≡_}
-use mathlib.Core.List.{[], _∷_}
 use Rattle.answers.specs.Refusals.{Answer, given, refused}
-use Rattle.answers.specs.Calls.{_when_, Call}
+use Rattle.answers.specs.Calls.{Call}
 use Rattle.kinds.specs.Kinds.{roleA, roleB, roleC, wordBits, entryOf, roleOf}
-use Rattle.kinds.specs.Rule.{layoutOf, elementsOf, majors, minors, placeIn, holderIn}
-use Rattle.kinds.specs.Refusals.{layoutRefusals, elementOutside, entryOutside}
+use Rattle.kinds.specs.Rule.{layoutOf}
+use Rattle.kinds.specs.Refusals.{layoutRefusals}
 use Rattle.kinds.specs.declared.Layout.{Layout}
 use Rattle.kinds.specs.declared.Layouts.{Layouts}
 use Rattle.kinds.specs.declared.Known.{Known}
@@ -22,13 +21,6 @@ layoutCall k r = record { refusals = layoutRefusals k r; gives = layoutOf (entry
 
 abbrev pub layoutsOf : (kind : ℕ) → Layouts
 layoutsOf k = record { a = layoutOf (entryOf k) roleA; b = layoutOf (entryOf k) roleB; c = layoutOf (entryOf k) roleC }
-
--- place and the reverse question in a layout, the latter by its major and minor number
-abbrev pub placeCallIn : Layout → (lane i : ℕ) → Call (ℕ × ℕ)
-placeCallIn f lane i = record { refusals = 6 when elementOutside (elementsOf f) lane i ∷ []; gives = placeIn f lane i }
-
-abbrev pub findCallIn : Layout → ℕ × ℕ → Call (ℕ × ℕ)
-findCallIn f x = record { refusals = 6 when entryOutside (majors f) (minors f) (x .0) (x .1) ∷ []; gives = holderIn f x }
 
 -- a width at which elements fill words evenly, or a word's double
 pub record Width (b : ℕ) : Type 0 where

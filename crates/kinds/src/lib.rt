@@ -1,11 +1,10 @@
-// The kinds of document 01: their table, the place of an element, and the reverse question.
+// The kinds of document 01: their table, and how a kind and a role lie in a warp.
 ghost use mathlib.Core.Path.{_≡_};
 ghost use Prim.Native.Nat.{_<_, _≤_};
 ghost use Rattle.answers.specs.Contracts.{Replies};
 ghost use Rattle.kinds.specs.Kinds.{kinds, entryOf, roleOf};
 ghost use Rattle.kinds.specs.Rule.{spread, sideOf, layoutOf};
-ghost use Rattle.kinds.specs.PlaceCalls.{toldPlace, toldHolder, placeCall, findCall};
-ghost use Rattle.kinds.specs.Workers.{toldLayout, layoutCall, placeCallIn, findCallIn, layoutsOf, Laid};
+ghost use Rattle.kinds.specs.Workers.{toldLayout, layoutCall, layoutsOf, Laid};
 use answers::Refusal;
 
 pub mod rule;
@@ -57,16 +56,6 @@ impl Lane {
 
     // Lanes of a quad.
     pub const QUAD: usize = 4;
-}
-
-pub enum Placed {
-    At(Row, Column),
-    Refused(Refusal),
-}
-
-pub enum Held {
-    By(Lane, Element),
-    Refused(Refusal),
 }
 
 // A line of the kinds table: m, n, k; what an element of A and B is; bits of an A or B element, of a C or D element; words per lane of A, of
@@ -246,67 +235,4 @@ pub fn layout_of(kind: Kind, role: Role) -> Known
         return Known::Refused(Refusal::UnknownRole);
     }
     Known::As(Layout::of(kind, role))
-}
-
-fn place_in(f: Layout, lane: Lane, element: Element) -> Placed
-    requires { ⌜ Laid f ⌝ }
-    ensures { λ r. ⌜ Replies (placeCallIn f (lane .0) (element .0)) (toldPlace r) ⌝ }
-{
-    let l = lane.0 as usize;
-    let i = element.0 as usize;
-    if Lane::COUNT <= l {
-        return Placed::Refused(Refusal::Outside);
-    }
-    if f.spans * f.halves * f.side <= i {
-        return Placed::Refused(Refusal::Outside);
-    }
-    let x = rule::across(f.side, f.halves, lane, element) as u32;
-    let y = rule::along(f.side, f.halves, lane, element) as u32;
-    if f.turned {
-        return Placed::At(Row(y), Column(x));
-    }
-    Placed::At(Row(x), Column(y))
-}
-
-// The place of an element: its row and column.
-pub fn place(kind: Kind, role: Role, lane: Lane, element: Element) -> Placed
-    ensures { λ r. ⌜ Replies (placeCall (kind .0) (role .0) (lane .0) (element .0)) (toldPlace r) ⌝ }
-{
-    match layout_of(kind, role) {
-        Known::As(f) => place_in(f, lane, element),
-        Known::Refused(x) => Placed::Refused(x),
-    }
-}
-
-fn find_in(f: Layout, x: u32, y: u32) -> Held
-    requires { ⌜ Laid f ⌝ }
-    ensures { λ r. ⌜ Replies (findCallIn f (x, y)) (toldHolder r) ⌝ }
-{
-    let major = x as usize;
-    let minor = y as usize;
-    if f.halves * 8 <= major {
-        return Held::Refused(Refusal::Outside);
-    }
-    if f.spans * Lane::QUAD * f.side <= minor {
-        return Held::Refused(Refusal::Outside);
-    }
-    let l = rule::lane_at(f.side, major, minor) as u32;
-    let i = rule::element_at(f.side, f.halves, major, minor) as u32;
-    Held::By(Lane(l), Element(i))
-}
-
-// The reverse question: the lane and the element whose place is at a row and a column.
-pub fn find(kind: Kind, role: Role, row: Row, column: Column) -> Held
-    ensures { λ r. ⌜ Replies (findCall (kind .0) (role .0) (row .0) (column .0)) (toldHolder r) ⌝ }
-{
-    match layout_of(kind, role) {
-        Known::As(f) => {
-            if f.turned {
-                find_in(f, column.0, row.0)
-            } else {
-                find_in(f, row.0, column.0)
-            }
-        }
-        Known::Refused(x) => Held::Refused(x),
-    }
 }

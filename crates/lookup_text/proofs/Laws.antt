@@ -11,10 +11,10 @@ use lib.Seq.{length-take-le, take-suc-set, take-add, getD-drop, drop-set-lt, dro
 use Rattle.laws.specs.Choice.{if_then_else_, _<?_}
 use Rattle.kinds.specs.Rule.{turn, major, minor}
 use Rattle.answers.specs.Refusals.{Answer, given, refusal}
-use Rattle.kinds.specs.PlaceCalls.{placeAnswer}
+use Rattle.places.specs.PlaceCalls.{placeAnswer}
 use Rattle.kinds.proofs.Digits.{major-lt, minor-lt}
 use Rattle.kinds.proofs.Table.{layoutAt, sane}
-use Rattle.kinds.proofs.ByRule.{place-legal, placed-inside}
+use Rattle.places.proofs.ByRule.{place-legal, placed-inside}
 use Rattle.lookup_text.specs.Text.{decimal, lineOf, printed, shortText, Put}
 
 -- no text, one byte, and a text after a text

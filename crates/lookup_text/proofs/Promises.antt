@@ -4,7 +4,7 @@ use mathlib.Core.List.{List, [], _∷_, _++_}
 use Prim.Native.Nat.{ℕ, _%_}
 use lib.ListN.{length}
 use Rattle.kinds.specs.Places.{placeOf}
-use Rattle.kinds.specs.PlaceCalls.{placeAnswer}
+use Rattle.places.specs.PlaceCalls.{placeAnswer}
 use Rattle.lookup_text.specs.Text.{decimal, lineOf, printed}
 use Rattle.lookup_text.proofs.Laws as laws
 

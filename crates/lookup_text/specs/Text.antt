@@ -5,7 +5,7 @@ use mathlib.Core.List.{List, [], _∷_, _++_}
 use lib.ListN.{length, take, drop}
 use Rattle.laws.specs.Choice.{if_then_else_, _<?_}
 use Rattle.answers.specs.Refusals.{Answer, given, refusal}
-use Rattle.kinds.specs.PlaceCalls.{placeAnswer}
+use Rattle.places.specs.PlaceCalls.{placeAnswer}
 
 -- a number below 1,000 in decimal, with no zero in front; every row, column and refusal number is below 1,000
 abbrev pub digit : ℕ → ℕ

@@ -4,15 +4,15 @@ ghost use mathlib.Core.Path.{_≡_};
 ghost use Prim.Native.Nat.{_+_, _*_, _/_, _<_, _≤_};
 ghost use lib.ListN.{length, take};
 ghost use Rattle.answers.specs.Refusals.{given, refusal};
-ghost use Rattle.kinds.specs.PlaceCalls.{placeAnswer};
+ghost use Rattle.places.specs.PlaceCalls.{placeAnswer};
 ghost use Rattle.lookup_text.specs.Text.{decimal, lineOf, printed, Put};
 use kinds::Column;
 use kinds::Element;
 use kinds::Kind;
 use kinds::Lane;
-use kinds::Placed;
 use kinds::Role;
 use kinds::Row;
+use places::Placed;
 
 // Each `put` puts a text into out at a place, and answers the place after it.
 fn put(out: &mut [u8], at: usize, b: u8) -> usize
@@ -84,7 +84,7 @@ pub fn put_line(out: &mut [u8], at: usize, kind: u8, role: u8, lane: u8, element
     requires { ⌜ at + 12 ≤ length (now out) ⌝ }
     ensures { λ r. ⌜ Put (lineOf (placeAnswer kind role lane element)) (now (out .entry)) at (now (out .exit)) r ⌝ }
 {
-    match kinds::place(
+    match places::place(
         Kind(kind as u32),
         Role(role as u32),
         Lane(lane as u32),

@@ -6,7 +6,7 @@ use lib.ListN.{length, getD}
 use Rattle.kinds.specs.Kinds.{bitsAt, Legal}
 use Rattle.kinds.specs.Rule.{columnsOf}
 use Rattle.answers.specs.Refusals.{given}
-use Rattle.kinds.specs.PlaceCalls.{placeAnswer}
+use Rattle.places.specs.PlaceCalls.{placeAnswer}
 use Rattle.kinds.proofs.Table.{layoutAt, bits-are}
 use Rattle.answers.proofs.Shows.{passes}
 use Rattle.buffers.specs.Buffers.{elementIn, index, unpackedOf, packedOf, Fitting, wordsNeeded, entriesNeeded}

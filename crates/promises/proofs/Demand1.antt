@@ -14,7 +14,7 @@ use Rattle.answers.specs.declared.Refusal.{Refusal}
 use Rattle.answers.specs.declared.Verdict.{Verdict}
 use Rattle.answers.specs.declared.Verdict.the-variants.{Accepted, Refused}
 use Rattle.answers.proofs.Demand1 as every
-use Rattle.kinds.specs.PlaceCalls.{placeCall, findCall}
+use Rattle.places.specs.PlaceCalls.{placeCall, findCall}
 use Rattle.unpack.specs.UnpackCall.{unpackCall}
 use Rattle.pack.specs.PackCall.{packCall}
 use Rattle.template.specs.Templates.{readCall as recordReadCall, writeCall as recordWriteCall}

@@ -17,15 +17,15 @@ use Rattle.laws.specs.Totals.{Wraps}
 use Rattle.kinds.specs.Kinds.{kindOf, roleOf, bits, words, bitsAt, columnsAt, elementsAt, rowsAt, wordsAt, Legal, oneBit, integer, Arithmetic}
 use Rattle.kinds.specs.Places.{placeOf}
 use Rattle.answers.specs.Refusals.{given}
-use Rattle.kinds.specs.PlaceCalls.{placeCall, placeAnswer, findAnswer}
+use Rattle.places.specs.PlaceCalls.{placeCall, placeAnswer, findAnswer}
 use Rattle.answers.specs.Tests.{Says}
 use Rattle.answers.proofs.Words.{says}
 use Rattle.answers.proofs.Demand1.{given-when}
 use Rattle.kinds.proofs.Table.{not-one-bit}
 use Rattle.kinds.specs.Rule.{elementsOf, holderOf}
-use Rattle.kinds.proofs.ByRule.{rule-placed}
+use Rattle.places.proofs.ByRule.{rule-placed}
 use Rattle.kinds.proofs.Table.{layoutAt, elements-are, rows-are, columns-are, bits-are, words-are, sane}
-use Rattle.kinds.proofs.Promises as places
+use Rattle.places.proofs.Promises as places
 use Rattle.buffers.specs.Buffers.{elementAt, elementIn, unpackedOf, packedOf, wordsNeeded, entriesNeeded}
 use Rattle.buffers.proofs.Elements as warp
 use Rattle.buffers.proofs.Placed.{entries-needed}

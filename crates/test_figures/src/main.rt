@@ -6,14 +6,14 @@ use answers::Refusal;
 use answers::Verdict;
 use kinds::Column;
 use kinds::Element;
-use kinds::Held;
 use kinds::Kind;
 use kinds::Lane;
 use kinds::Mode;
-use kinds::Placed;
 use kinds::Role;
 use kinds::Row;
 use kinds::Signs;
+use places::Held;
+use places::Placed;
 
 fn print_text(s: &[u8]) {
     io::write_all(1, s);
@@ -70,7 +70,7 @@ fn place(kind: Kind, role: Role, lane: Lane, element: Element) {
     print_matrix(kind, role);
     print_holder(lane.0, element.0);
     print_text(b": ");
-    match kinds::place(kind, role, lane, element) {
+    match places::place(kind, role, lane, element) {
         Placed::At(row, column) => print_pair(row.0, column.0),
         Placed::Refused(refusal) => print_refusal(refusal),
     }
@@ -81,7 +81,7 @@ fn find(kind: Kind, role: Role, row: Row, column: Column) {
     print_matrix(kind, role);
     print_pair(row.0, column.0);
     print_text(b": ");
-    match kinds::find(kind, role, row, column) {
+    match places::find(kind, role, row, column) {
         Held::By(lane, element) => print_holder(lane.0, element.0),
         Held::Refused(refusal) => print_refusal(refusal),
     }

@@ -6,9 +6,9 @@ use lib.ListN.{length, getD}
 use Rattle.kinds.specs.Kinds.{columnsAt, rowsAt, Legal}
 use Rattle.kinds.specs.Rule.{rowsOf, columnsOf, holderOf}
 use Rattle.answers.specs.Refusals.{given}
-use Rattle.kinds.specs.PlaceCalls.{placeAnswer}
+use Rattle.places.specs.PlaceCalls.{placeAnswer}
 use Rattle.kinds.proofs.Table.{layoutAt, sane, rows-are, columns-are}
-use Rattle.kinds.proofs.ByRule.{rule-placed}
+use Rattle.places.proofs.ByRule.{rule-placed}
 use Rattle.buffers.specs.Buffers.{elementIn, index, unpackedOf, entriesNeeded}
 use Rattle.buffers.proofs.Placed.{indexIn, legal, placed, laid, index-is, element-is, at-rule, entries-needed}
 use Rattle.buffers.proofs.Round as round

@@ -4,7 +4,7 @@ ghost use Prim.Native.Nat.{_+_, _*_, _^_};
 ghost use mathlib.Core.List.{[], _∷_};
 ghost use lib.ListN.{length, drop};
 ghost use Rattle.answers.specs.Refusals.{numberOf, detailOf, told};
-ghost use Rattle.kinds.specs.PlaceCalls.{placeCall, findCall};
+ghost use Rattle.places.specs.PlaceCalls.{placeCall, findCall};
 ghost use Rattle.unpack.specs.UnpackCall.{unpackCall};
 ghost use Rattle.pack.specs.PackCall.{packCall};
 ghost use Rattle.template.specs.Templates.{readCall, writeCall};
@@ -18,14 +18,14 @@ use answers::Refusal;
 use answers::Verdict;
 use kinds::Column;
 use kinds::Element;
-use kinds::Held;
 use kinds::Kind;
 use kinds::Lane;
 use kinds::Mode;
-use kinds::Placed;
 use kinds::Role;
 use kinds::Row;
 use kinds::Signs;
+use places::Held;
+use places::Placed;
 use run::Run;
 use scale::ByteId;
 use scale::Side;
@@ -61,7 +61,7 @@ fn put_pair(out: &mut [u32], first: u32, second: u32)
 pub extern "C" fn wz_place(kind: u32, role: u32, lane: u32, element: u32, out: &mut [u32; 2]) -> u64
     ensures { λ r. ⌜ Coded (giving pairOf (placeCall kind role lane element)) (now (out .entry)) r (now (out .exit)) ⌝ }
 {
-    match kinds::place(Kind(kind), Role(role), Lane(lane), Element(element)) {
+    match places::place(Kind(kind), Role(role), Lane(lane), Element(element)) {
         Placed::At(row, column) => {
             put_pair(out, row.0, column.0);
             0
@@ -75,7 +75,7 @@ pub extern "C" fn wz_place(kind: u32, role: u32, lane: u32, element: u32, out: &
 pub extern "C" fn wz_find(kind: u32, role: u32, row: u32, column: u32, out: &mut [u32; 2]) -> u64
     ensures { λ r. ⌜ Coded (giving pairOf (findCall kind role row column)) (now (out .entry)) r (now (out .exit)) ⌝ }
 {
-    match kinds::find(Kind(kind), Role(role), Row(row), Column(column)) {
+    match places::find(Kind(kind), Role(role), Row(row), Column(column)) {
         Held::By(lane, element) => {
             put_pair(out, lane.0, element.0);
             0

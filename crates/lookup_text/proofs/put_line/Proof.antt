@@ -3,7 +3,7 @@ use borrow.Author.Needs.{needs}
 use mathlib.Core.Path.{sym, ap, _∙_}
 use Rattle.answers.proofs.Refusals.{number-range}
 use Rattle.answers.proofs.Demand1.{reply-is}
-use Rattle.kinds.specs.PlaceCalls.{toldPlace, placeAnswer}
+use Rattle.places.specs.PlaceCalls.{toldPlace, placeAnswer}
 use Rattle.lookup_text.specs.Text.{lineOf}
 use Rattle.lookup_text.proofs.Laws.{place-small}
 use Rattle.lookup_text.proofs.put_line.Statement.{statement}

@@ -9,7 +9,7 @@ use Rattle.answers.proofs.Shows.{meets}
 use Rattle.answers.proofs.Demand1.{verdict-is}
 use Rattle.kinds.specs.Kinds.{bitsAt}
 use Rattle.kinds.specs.declared.Layout.{Layout}
-use Rattle.kinds.proofs.ByRule.{known-legal, known-sane, handed-on}
+use Rattle.kinds.proofs.Judged.{known-legal, known-sane, handed-on}
 use Rattle.buffers.specs.Buffers.{packed, wordsNeeded, entriesNeeded}
 use Rattle.pack.specs.PackCall.{matrixRefusals}
 use Rattle.pack.specs.Workers.{packCallIn}

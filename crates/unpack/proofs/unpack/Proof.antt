@@ -8,7 +8,7 @@ use Rattle.answers.specs.Calls.{judgement}
 use Rattle.answers.proofs.Shows.{meets}
 use Rattle.answers.proofs.Demand1.{verdict-is}
 use Rattle.kinds.specs.declared.Layout.{Layout}
-use Rattle.kinds.proofs.ByRule.{known-legal, known-sane, handed-on}
+use Rattle.kinds.proofs.Judged.{known-legal, known-sane, handed-on}
 use Rattle.buffers.specs.Buffers.{unpacked, wordsNeeded, entriesNeeded}
 use Rattle.unpack.specs.UnpackCall.{lengthRefusals}
 use Rattle.unpack.specs.Workers.{unpackCallIn}

@@ -2,22 +2,22 @@
 use mathlib.Core.Path.{_≡_, refl, sym, ap, _∙_}
 use mathlib.Core.Logic.{_↔_}
 use Prim.Native.Nat.{ℕ, _<_}
 use Rattle.kinds.specs.Kinds.{lanes, kindOf, roleOf, elementsAt, Legal}
 use Rattle.kinds.specs.Places.{placeOf}
 use Rattle.kinds.specs.Rule.{placeIn, turn}
 use Rattle.answers.specs.Refusals.{Answer, given, refusal}
 use Rattle.answers.specs.Contracts.{Replies}
 use Rattle.answers.proofs.Refusals.{refusalOf, refusal-back}
 use Rattle.answers.proofs.Demand1.{no-second-reply}
-use Rattle.kinds.specs.PlaceCalls.{placeCall, placeAnswer, findCall, findAnswer, toldPlace, toldHolder}
-use Rattle.kinds.specs.declared.Placed.{Placed}
-use Rattle.kinds.specs.declared.Placed.the-variants.{At, Refused as Placed·Refused}
-use Rattle.kinds.specs.declared.Held.{Held}
-use Rattle.kinds.specs.declared.Held.the-variants.{By, Refused as Held·Refused}
+use Rattle.places.specs.PlaceCalls.{placeCall, placeAnswer, findCall, findAnswer, toldPlace, toldHolder}
+use Rattle.places.specs.declared.Placed.{Placed}
+use Rattle.places.specs.declared.Placed.the-variants.{At, Refused as Placed·Refused}
+use Rattle.places.specs.declared.Held.{Held}
+use Rattle.places.specs.declared.Held.the-variants.{By, Refused as Held·Refused}
 use Rattle.kinds.proofs.Table.{layoutAt, sane}
 use Rattle.kinds.proofs.Whole.{whole-at}
 use Rattle.laws.proofs.Unique.{one-answer}
-use Rattle.kinds.proofs.ByRule.{place-legal, find-legal, place-is, find-is, place-find, find-place, turn-turn}
+use Rattle.places.proofs.ByRule.{place-legal, find-legal, place-is, find-is, place-find, find-place, turn-turn}
 
 -- 'For each kind and role this matches lane and element to row and column one to one, and the reverse question is answered too.'
 -- For all numbers, legal or not: the place of element i of lane l is (x, y) exactly when the holder of (x, y) is element i of lane l.

@@ -1,9 +1,9 @@
 -- The tests that led to a return decide it; the numbers are the rule's. Assumes nothing.
 use borrow.Author.Needs.{needs}
 use mathlib.Core.Bool.{true, false}
-use Rattle.kinds.proofs.ByRule.{placed}
-use Rattle.kinds.proofs.place_in.Statement.{statement}
-use Rattle.kinds.proofs.place_in.Tie as tie
+use Rattle.places.proofs.ByRule.{placed}
+use Rattle.places.proofs.place_in.Statement.{statement}
+use Rattle.places.proofs.place_in.Tie as tie
 
 cast-l : tie.Need-cast-l
 cast-l c = search needs

@@ -2,8 +2,8 @@
 use borrow.Author.Needs.{needs}
 use mathlib.Core.Path.{ap₂}
 use Prim.Native.Nat.{ℕ}
-use Rattle.kinds.proofs.find_in.Statement.{statement}
-use Rattle.kinds.proofs.find_in.Tie as tie
+use Rattle.places.proofs.find_in.Statement.{statement}
+use Rattle.places.proofs.find_in.Tie as tie
 
 mul-if1 : tie.Need-mul-if1
 mul-if1 c = search needs

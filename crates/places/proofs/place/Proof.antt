@@ -3,10 +3,11 @@ use borrow.Author.Needs.{needs}
 use mathlib.Core.Path.{_∙_}
 use Rattle.answers.proofs.Shows.{replies}
 use Rattle.answers.proofs.Demand1.{reply-is}
-use Rattle.kinds.specs.PlaceCalls.{placeAnswer}
-use Rattle.kinds.proofs.ByRule.{known-sane, known-placed, place-refused}
-use Rattle.kinds.proofs.place.Statement.{statement}
-use Rattle.kinds.proofs.place.Tie as tie
+use Rattle.places.specs.PlaceCalls.{placeAnswer}
+use Rattle.kinds.proofs.Judged.{known-sane}
+use Rattle.places.proofs.ByRule.{known-placed, place-refused}
+use Rattle.places.proofs.place.Statement.{statement}
+use Rattle.places.proofs.place.Tie as tie
 
 layout-of-requires : tie.Need-layout-of-requires
 layout-of-requires c κs = search needs

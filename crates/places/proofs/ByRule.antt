@@ -7,25 +7,26 @@ use Prim.Native.Nat.{ℕ, _<_}
 use borrow.Author.Tests.{leb-false}
 use Rattle.laws.specs.Choice.{if_then_else_, _≤?_}
 use Rattle.laws.proofs.Choice.{or-false, or-comm}
-use Rattle.answers.specs.Refusals.{given, refusal, refused, numberOf, detailOf}
+use Rattle.answers.specs.Refusals.{given, refusal, refused}
 use Rattle.answers.specs.Calls.{Line, _when_, _then_, first, answer}
 use Rattle.answers.specs.Contracts.{Replies}
 use Rattle.answers.specs.declared.Refusal.{Refusal}
 use Rattle.answers.proofs.Shows as shows
-use Rattle.answers.proofs.Demand1.{reply-is}
 use Rattle.kinds.specs.Kinds.{lanes, kindOf, roleOf, columnsAt, elementsAt, rowsAt, Legal}
 use Rattle.kinds.specs.Places.{placeOf}
 use Rattle.kinds.specs.Rule.{elementsOf, majors, minors, turn, placeIn, holderIn, holderOf, major, minor, laneOf, elementOf}
-use Rattle.kinds.specs.Refusals.{unknownKind, unknownRole, layoutRefusals, elementOutside, entryOutside}
-use Rattle.kinds.specs.PlaceCalls.{findCall, placeAnswer, findAnswer}
-use Rattle.kinds.specs.Workers.{toldLayout, layoutCall, placeCallIn, findCallIn, Laid}
+use Rattle.kinds.specs.Refusals.{unknownKind, unknownRole}
+use Rattle.places.specs.PlaceCalls.{elementOutside, entryOutside}
+use Rattle.places.specs.PlaceCalls.{findCall, placeAnswer, findAnswer}
+use Rattle.kinds.specs.Workers.{toldLayout, layoutCall, Laid}
+use Rattle.places.specs.Workers.{placeCallIn, findCallIn}
 use Rattle.kinds.specs.declared.Layout.{Layout}
 use Rattle.kinds.specs.declared.Known.{Known}
 use Rattle.kinds.specs.declared.Known.the-variants.{As, Refused as Known·Refused}
 use Rattle.kinds.proofs.Digits.{lane-back, element-back, major-back, minor-back, major-lt, minor-lt, lane-lt, element-lt}
-use Rattle.kinds.proofs.Table.{layoutAt, elements-are, majors-are, minors-are, sane}
+use Rattle.kinds.proofs.Table.{layoutAt, elements-are, majors-are, minors-are}
 use Rattle.kinds.proofs.Whole.{whole-at}
-use Rattle.kinds.proofs.Judged.{legal, judged-is, judged-given}
+use Rattle.kinds.proofs.Judged.{legal, judged-is, judged-given, known-legal, handed-on}
 
 -- the lines after the kind's and the role's
 abbrev outsideElement : (k r l i : ℕ) → List Line
@@ -101,39 +102,22 @@ find-legal k r x y z e = let p = shows.passes (findCall k r x y .refusals) (hold
 -- from the layout that a call was handed to the call's own answer
 module _ (k r : ℕ) (a : Known) (told : Replies (layoutCall k r) (toldLayout a)) where
   module _ (f : Layout) (e : a ≡ As f) where
-    layout-given : given f ≡ answer (layoutCall k r)
-    layout-given = sym (ap toldLayout e) ∙ reply-is told
-
-    pub known-legal : Legal k r × (f ≡ layoutAt k r)
-    known-legal = (
-      legal k r (shows.passes (layoutRefusals k r) (layoutAt k r) (sym layout-given)),
-      shows.first-gives (layoutRefusals k r) (layoutAt k r) layout-given,
-    )
-
-    pub known-sane : Laid f
-    known-sane = subst Laid (sym (known-legal .1)) (sane k r (known-legal .0))
-
-    -- where the layout was given, the rest decides
-    pub known-rest : {X : Type 0} (rest : List Line) (x : X) → first rest x ≡ first (layoutRefusals k r then rest) x
-    known-rest rest x = sym (judged-is k r rest x (known-legal .0))
+    known : Legal k r × (f ≡ layoutAt k r)
+    known = known-legal k r a told f e
 
     pub known-placed : (l i : ℕ) → answer (placeCallIn f l i) ≡ placeAnswer k r l i
-    known-placed l i = ap (λ (f : Layout). answer (placeCallIn f l i)) (known-legal .1) ∙ place-is k r (known-legal .0) l i
+    known-placed l i = ap (λ (f : Layout). answer (placeCallIn f l i)) (known .1) ∙ place-is k r (known .0) l i
 
     pub known-found : (x y : ℕ) → answer (findCallIn f (turn (f .turned) (x, y))) ≡ findAnswer k r x y
-    known-found x y = ap (λ (f : Layout). answer (findCallIn f (turn (f .turned) (x, y)))) (known-legal .1) ∙ find-is k r (known-legal .0) x y
-
-  -- and where it was refused, that refusal stands
-  pub handed-on : (x : Refusal) → a ≡ Known·Refused x → {X : Type 0} (rest : List Line) (y : X) → refused x ≡ first (layoutRefusals k r then rest) y
-  handed-on x e rest y = shows.handed-on (layoutRefusals k r) rest (layoutAt k r) y (numberOf x) (detailOf x) (sym (ap toldLayout e) ∙ reply-is told)
+    known-found x y = ap (λ (f : Layout). answer (findCallIn f (turn (f .turned) (x, y)))) (known .1) ∙ find-is k r (known .0) x y
 
   pub place-refused : (x : Refusal) → a ≡ Known·Refused x → (l i : ℕ) → refused x ≡ placeAnswer k r l i
   unfolding placeAnswer
-  place-refused x e l i = handed-on x e (outsideElement k r l i) (placeOf (kindOf k) (roleOf r) l i)
+  place-refused x e l i = handed-on k r a told x e (outsideElement k r l i) (placeOf (kindOf k) (roleOf r) l i)
 
   pub find-refused : (x : Refusal) → a ≡ Known·Refused x → (row column : ℕ) → refused x ≡ findAnswer k r row column
   unfolding findAnswer
-  find-refused x e row column = handed-on x e (outsideEntry k r row column) (holderOf (layoutAt k r) (row, column))
+  find-refused x e row column = handed-on k r a told x e (outsideEntry k r row column) (holderOf (layoutAt k r) (row, column))
 
 -- a place that was worked out is the rule's
 pub placed : (f : Layout) (l i x y : ℕ) (t : Bool) → x ≡ major (f .side) (f .halves) l i → y ≡ minor (f .side) (f .halves) l i → f .turned ≡ t → turn t (x, y) ≡ placeIn f l i

@@ -5,12 +5,13 @@ use mathlib.Core.Bool.{Bool}
 use Rattle.answers.specs.Calls.{answer}
 use Rattle.answers.proofs.Shows.{replies}
 use Rattle.answers.proofs.Demand1.{reply-is}
 use Rattle.kinds.specs.Rule.{turn}
-use Rattle.kinds.specs.PlaceCalls.{findAnswer}
-use Rattle.kinds.specs.Workers.{findCallIn}
-use Rattle.kinds.proofs.ByRule.{known-sane, known-found, find-refused}
-use Rattle.kinds.proofs.find.Statement.{statement}
-use Rattle.kinds.proofs.find.Tie as tie
+use Rattle.places.specs.PlaceCalls.{findAnswer}
+use Rattle.places.specs.Workers.{findCallIn}
+use Rattle.kinds.proofs.Judged.{known-sane}
+use Rattle.places.proofs.ByRule.{known-found, find-refused}
+use Rattle.places.proofs.find.Statement.{statement}
+use Rattle.places.proofs.find.Tie as tie
 
 layout-of-requires : tie.Need-layout-of-requires
 layout-of-requires c κs = search needs

@@ -2,15 +2,16 @@
 use Prim.Native.Nat.{ℕ}
 use mathlib.Core.List.{[], _∷_}
 use Rattle.answers.specs.Refusals.{Answer, given, refused}
+use Rattle.answers.specs.Tests.{Test, reaches, either}
 use Rattle.answers.specs.Calls.{_when_, _then_, Call, answer}
-use Rattle.kinds.specs.Kinds.{entryOf, kindOf, roleOf, columnsAt, elementsAt, rowsAt}
+use Rattle.kinds.specs.Kinds.{lanes, entryOf, kindOf, roleOf, columnsAt, elementsAt, rowsAt}
 use Rattle.kinds.specs.Places.{placeOf}
 use Rattle.kinds.specs.Rule.{layoutOf, holderOf}
-use Rattle.kinds.specs.Refusals.{layoutRefusals, elementOutside, entryOutside}
-use Rattle.kinds.specs.declared.Placed.{Placed}
-use Rattle.kinds.specs.declared.Placed.the-variants.{At, Refused as Placed·Refused}
-use Rattle.kinds.specs.declared.Held.{Held}
-use Rattle.kinds.specs.declared.Held.the-variants.{By, Refused as Held·Refused}
+use Rattle.kinds.specs.Refusals.{layoutRefusals}
+use Rattle.places.specs.declared.Placed.{Placed}
+use Rattle.places.specs.declared.Placed.the-variants.{At, Refused as Placed·Refused}
+use Rattle.places.specs.declared.Held.{Held}
+use Rattle.places.specs.declared.Held.the-variants.{By, Refused as Held·Refused}
 
 -- what each case of an answer means: row and column; lane and element
 abbrev pub toldPlace : Placed → Answer (ℕ × ℕ)
@@ -20,6 +21,13 @@ toldPlace (Placed·Refused x) = refused x
 abbrev pub toldHolder : Held → Answer (ℕ × ℕ)
 toldHolder (By lane i) = given (lane .0, i .0)
 toldHolder (Held·Refused x) = refused x
+
+-- 6: lane over 31, element past the last; row or column past the last
+abbrev pub elementOutside : (elements lane i : ℕ) → Test
+elementOutside elements lane i = either (reaches lane lanes) (reaches i elements)
+
+abbrev pub entryOutside : (rows columns row column : ℕ) → Test
+entryOutside rows columns row column = either (reaches row rows) (reaches column columns)
 
 -- the place of an element: row and column
 abbrev pub placeCall : (kind role lane i : ℕ) → Call (ℕ × ℕ)

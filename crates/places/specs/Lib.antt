@@ -1,0 +1,2 @@
+pub mod PlaceCalls
+pub mod Workers
