@@ -86,12 +86,13 @@ module _ (k : ℕ) (ok : Arithmetic k) where
   pub bits-le : e .bits ≤ 8
   bits-le = le-test (λ e. e .bits) (λ e. 8) tt
 
-  -- the integer kinds are shallow, and have two halves of eight rows
+  -- the integer kinds are shallow
   pub depth-small : Says (integer k) → depth k ≤ 64
   depth-small two = among-≤ k (ok .low) (ok .high) int8Element int4Element two (λ e. e .k) (λ e. 64) tt
 
-  pub two-halves : Says (integer k) → e .m / 8 ≡ 2
-  two-halves two = among-≡ k (ok .low) (ok .high) int8Element int4Element two (λ e. e .m / 8) (λ e. 2) tt
+  -- there are at most two halves of eight rows
+  pub halves-le : e .m / 8 ≤ 2
+  halves-le = le-test (λ e. e .m / 8) (λ e. 2) tt
 
   pub room-A : e .m / 8 * 8 * depth k ≤ 1024
   room-A = le-test (λ e. e .m / 8 * 8 * e .k) (λ e. 1024) tt

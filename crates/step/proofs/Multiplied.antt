@@ -21,7 +21,7 @@ use Rattle.step_products.specs.declared.Offsets.{Offsets}
 use Rattle.step_products.proofs.OffsetDots.{element-lt, dot-digits, offset-ext}
 use Rattle.step_products.proofs.Signs.{doubled}
 use Rattle.answers.specs.Tests.{Says}
-use Rattle.step.proofs.Matrices.{entry-A, entry-B, entry-C, stepped-is, legal, depth-is, depth-small, pairs, bits-pos, bits-le, columns-half, halves-pos, words-pos, room-A, room-B, two-halves}
+use Rattle.step.proofs.Matrices.{entry-A, entry-B, entry-C, stepped-is, legal, depth-is, depth-small, pairs, bits-pos, bits-le, columns-half, halves-pos, words-pos, room-A, room-B, halves-le}
 
 module _ (k signs mode : ℕ) (ok : Ready k signs mode) (two : Says (integer k)) (a b c xs ys : List ℕ) (fit : (x : ℕ) → getD c x 0 < 2 ^ 32) where
   abbrev β : ℕ
@@ -123,7 +123,7 @@ module _ (k signs mode : ℕ) (ok : Ready k signs mode) (two : Says (integer k))
         offset-a = ha;
         offset-b = hb;
         halves-pos = rw el (halves-pos k (ok .of));
-        halves-le = rw el (omega (arith, two-halves k (ok .of) two));
+        halves-le = rw el (halves-le k (ok .of));
         pairs = rw el (pairs k (ok .of));
         of-c = lc ∙ rw el refl;
         of-d = ld ∙ rw el refl;
