@@ -18,7 +18,8 @@ use Rattle.answers.proofs.Shows.{never, to-first, told-is}
 
 -- one line before the rest
 module _ {X : Type 0} {P G : Type 0} (m c n d : ℕ) (rest : Answer X) where
-  pub line-refused : (t : Bool) → (t ≡ true) ↔ P → (rest ≡ refusal n d) ↔ G → ((if t then refusal m c else rest) ≡ refusal n d) ↔ ((P × (m ≡ n) × (c ≡ d)) ⊎ ((¬ P) × G))
+  pub line-refused : (t : Bool) → (t ≡ true) ↔ P → (rest ≡ refusal n d) ↔ G
+      → ((if t then refusal m c else rest) ≡ refusal n d) ↔ ((P × (m ≡ n) × (c ≡ d)) ⊎ ((¬ P) × G))
   line-refused true h g = (there, back)
     where
       there : _≡_ {A = Answer X} (refusal m c) (refusal n d) → (P × (m ≡ n) × (c ≡ d)) ⊎ ((¬ P) × G)
@@ -34,7 +35,8 @@ module _ {X : Type 0} {P G : Type 0} (m c n d : ℕ) (rest : Answer X) where
       back (inr x) = g .1 (x .1)
 
 module _ {X : Type 0} {P G : Type 0} (m c : ℕ) (x : X) (rest : Answer X) where
-  pub line-given : (t : Bool) → (t ≡ true) ↔ P → (rest ≡ given x) ↔ G → ((if t then refusal m c else rest) ≡ given x) ↔ ((¬ P) × G)
+  pub line-given : (t : Bool) → (t ≡ true) ↔ P → (rest ≡ given x) ↔ G
+      → ((if t then refusal m c else rest) ≡ given x) ↔ ((¬ P) × G)
   line-given true h g = (λ e. absurd (never e), λ z. absurd (z .0 (h .0 refl)))
   line-given false h g = (λ e. (λ p. false≢true (h .1 p), g .0 e), λ z. g .1 (z .1))
 

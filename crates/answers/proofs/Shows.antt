@@ -196,25 +196,29 @@ module _ {refusals : List Line} {verdict : Verdict} where
 
 -- A line whose test another function made: it held, and refuses, or it failed, and the rest decides.
 module _ {l : Line} {ls : List Line} where
-  pub stops : {f : Refusal} → Shows true (l .test) → l .number ≡ numberOf f → l .detail ≡ detailOf f → Judges (l ∷ ls) (Refused f)
+  pub stops : {f : Refusal} → Shows true (l .test) → l .number ≡ numberOf f → l .detail ≡ detailOf f
+      → Judges (l ∷ ls) (Refused f)
   stops {f} h n d = record { verdict-right = from-first (l ∷ ls) tt (told (Refused f)) (rw (shows true (l .test) h, n, d) refl) }
 
   pub skips : {verdict : Verdict} → Shows false (l .test) → Judges ls verdict → Judges (l ∷ ls) verdict
   skips {verdict} h j = record { verdict-right = from-first (l ∷ ls) tt (told verdict) (rw (shows false (l .test) h) (judge-is j)) }
 
 -- Lines that another function judged, before the rest: its refusal stands, and where it accepted, the rest decides.
-pub handed-on : {X Y : Type 0} (ls rest : List Line) (x : X) (y : Y) (n d : ℕ) → refusal n d ≡ first ls x → refusal n d ≡ first (ls then rest) y
+pub handed-on : {X Y : Type 0} (ls rest : List Line) (x : X) (y : Y) (n d : ℕ) → refusal n d ≡ first ls x
+    → refusal n d ≡ first (ls then rest) y
 handed-on [] rest x y n d e = absurd (never e)
 handed-on (l ∷ ls) rest x y n d e =
     cases (holds (l .test)) (λ h. rw h (again (rw h at e))) (λ h. rw h (handed-on ls rest x y n d (rw h at e)))
   where
-    again : {X Y : Type 0} {m c n d : ℕ} → _≡_ {A = Answer X} (refusal n d) (refusal m c) → _≡_ {A = Answer Y} (refusal n d) (refusal m c)
+    again : {X Y : Type 0} {m c n d : ℕ} → _≡_ {A = Answer X} (refusal n d) (refusal m c)
+        → _≡_ {A = Answer Y} (refusal n d) (refusal m c)
     again {X} {Y} {m} {c} {n} {d} e =
         let a : n ≡ m = cc in
         let b : d ≡ c = cc in
         ap₂ refusal a b
 
-pub went-on : {X Y : Type 0} (ls rest : List Line) (x : X) (y : Y) {z : X} (q : Answer Y) → given z ≡ first ls x → q ≡ first rest y → q ≡ first (ls then rest) y
+pub went-on : {X Y : Type 0} (ls rest : List Line) (x : X) (y : Y) {z : X} (q : Answer Y) → given z ≡ first ls x
+    → q ≡ first rest y → q ≡ first (ls then rest) y
 went-on [] rest x y q e r = r
 went-on (l ∷ ls) rest x y q e r =
     cases (holds (l .test)) (λ h. absurd (never (sym (rw h at e)))) (λ h. rw h (went-on ls rest x y q (rw h at e) r))
@@ -234,7 +238,8 @@ module _ {X : Type 0} where
   goes-on [] rest x p = refl
   goes-on (l ∷ ls) rest x p = rw (deny (l .test) (p .0)) (goes-on ls rest x (p .1))
 
-  pub came-on : (ls rest : List Line) (x : X) {y : X} → first (ls then rest) x ≡ given y → Passes ls × (first rest x ≡ given y)
+  pub came-on : (ls rest : List Line) (x : X) {y : X} → first (ls then rest) x ≡ given y
+      → Passes ls × (first rest x ≡ given y)
   came-on [] rest x e = (tt, e)
   came-on (l ∷ ls) rest x {y} e = cases (holds (l .test)) (λ h. absurd (never (rw h at e))) (λ h. on h (came-on ls rest x (rw h at e)))
     where
@@ -254,7 +259,8 @@ pub accepts : {verdict : Verdict} → verdict ≡ Accepted → Judges [] verdict
 accepts {verdict} e = record { verdict-right = from-first [] tt (told verdict) (ap told e) }
 
 module _ {ls : List Line} {verdict : Verdict} where
-  pub stands : {f : Refusal} (rest : List Line) → Judges ls verdict → verdict ≡ Refused f → Judges (ls then rest) verdict
+  pub stands : {f : Refusal} (rest : List Line) → Judges ls verdict → verdict ≡ Refused f
+      → Judges (ls then rest) verdict
   stands {f} rest j e = record {
     verdict-right = from-first (ls then rest) tt (told verdict) (ap told e ∙ handed-on ls rest tt tt (numberOf f) (detailOf f) (sym (ap told e) ∙ judge-is j));
   }
@@ -267,19 +273,22 @@ module _ {ls : List Line} {verdict : Verdict} where
     continues {rest} {last} k = record { verdict-right = from-first (ls then rest) tt (told last) (judge-is k ∙ sym (goes-on ls rest tt (admitted j e))) }
 
     -- and so of a whole call
-    pub called-on : {X : Type 0} {call : Call X} {old left : X} {last : Verdict} → Meets call old last left → Meets (record { refusals = ls then call .refusals; gives = call .gives }) old last left
+    pub called-on : {X : Type 0} {call : Call X} {old left : X} {last : Verdict} → Meets call old last left
+        → Meets (record { refusals = ls then call .refusals; gives = call .gives }) old last left
     called-on {X} {call} {old} {left} {last} m = record { verdict-right = continues {rest = call .refusals} {last = last} (record { verdict-right = m .verdict-right }) .verdict-right; left-is = m .left-is }
 
 -- A call that was judged first: where the judge admits, the work is done, and where it rejects, nothing is.
 module _ {X : Type 0} {call : Call X} {old : X} {verdict : Verdict} where
-  pub worked : {left : X} → Judges (call .refusals) verdict → verdict ≡ Accepted → left ≡ call .gives → Meets call old verdict left
+  pub worked : {left : X} → Judges (call .refusals) verdict → verdict ≡ Accepted → left ≡ call .gives
+      → Meets call old verdict left
   worked j e l = record { verdict-right = j .verdict-right; left-is = l ∙ sym (ap (λ (v : Verdict). after (told v) (call .gives) old) e) }
 
   pub kept : {f : Refusal} → Judges (call .refusals) verdict → verdict ≡ Refused f → Meets call old verdict old
   kept j e = record { verdict-right = j .verdict-right; left-is = sym (ap (λ (v : Verdict). after (told v) (call .gives) old) e) }
 
   -- a call whose judgement and whose leavings are known as equations
-  pub meets : {left : X} → told verdict ≡ first (call .refusals) tt → left ≡ after (told verdict) (call .gives) old → Meets call old verdict left
+  pub meets : {left : X} → told verdict ≡ first (call .refusals) tt → left ≡ after (told verdict) (call .gives) old
+      → Meets call old verdict left
   meets e l = record { verdict-right = from-first (call .refusals) tt (told verdict) e; left-is = l }
 
 -- A call that gives something back, its answer known as an equation.

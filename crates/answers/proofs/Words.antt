@@ -24,7 +24,8 @@ unfolding firstTrue
 first-before zero f i l = absurd (not-suc-le-zero l)
 first-before (suc n) f i l = step (first-before n (λ i. f (suc i))) (f 0) refl i l
   where
-    step : {m : ℕ} → ((i : ℕ) → i < m → f (suc i) ≡ false) → (t : Bool) → f 0 ≡ t → (i : ℕ) → i < (if t then 0 else suc m) → f i ≡ false
+    step : {m : ℕ} → ((i : ℕ) → i < m → f (suc i) ≡ false) → (t : Bool) → f 0 ≡ t → (i : ℕ)
+        → i < (if t then 0 else suc m) → f i ≡ false
     step h true e i l = absurd (not-suc-le-zero l)
     step h false e zero l = e
     step h false e (suc i) l = h i (le-of-suc-le-suc l)
@@ -34,7 +35,8 @@ unfolding firstTrue
 first-true zero f l = absurd (not-suc-le-zero l)
 first-true (suc n) f l = step (first-true n (λ i. f (suc i))) (f 0) refl l
   where
-    step : {m : ℕ} → (m < n → f (suc m) ≡ true) → (t : Bool) → f 0 ≡ t → (if t then 0 else suc m) < suc n → f (if t then 0 else suc m) ≡ true
+    step : {m : ℕ} → (m < n → f (suc m) ≡ true) → (t : Bool) → f 0 ≡ t → (if t then 0 else suc m) < suc n
+        → f (if t then 0 else suc m) ≡ true
     step h true e l = e
     step h false e l = h (le-of-suc-le-suc l)
 
@@ -105,7 +107,8 @@ pub says-not : (t : Test) → (holds t ≡ false) ↔ (¬ Says t)
 says-not t = (λ e p. false≢true (sym e ∙ says t .1 p), fails (holds t) (says t))
 
 -- 'index of the first': that index is it exactly when its test says so and no earlier one does
-pub first-index : (n : ℕ) (t : ℕ → Test) (i : ℕ) → i < n → (firstOf n t ≡ i) ↔ (Says (t i) × ((j : ℕ) → j < i → ¬ Says (t j)))
+pub first-index : (n : ℕ) (t : ℕ → Test) (i : ℕ) → i < n
+    → (firstOf n t ≡ i) ↔ (Says (t i) × ((j : ℕ) → j < i → ¬ Says (t j)))
 first-index n t i l = (there, back)
   where
     there : firstOf n t ≡ i → Says (t i) × ((j : ℕ) → j < i → ¬ Says (t j))

@@ -41,7 +41,8 @@ pub struct Lengths {
 impl Lengths {
     pub fn of(kind: Kind) -> Lengths
         requires { ⌜ (1 ≤ kind .0) × (kind .0 ≤ kinds) ⌝ }
-        ensures { λ r. ⌜ (r .a ≡ wordsNeeded (kind .0) 0) × (r .b ≡ wordsNeeded (kind .0) 1) × (r .c ≡ wordsNeeded (kind .0) 2) ⌝ }
+        ensures { λ r. ⌜ (r .a ≡ wordsNeeded (kind .0) 0) × (r .b ≡ wordsNeeded (kind .0) 1) ×
+            (r .c ≡ wordsNeeded (kind .0) 2) ⌝ }
     {
         let e = Entry::of(kind);
         Lengths {

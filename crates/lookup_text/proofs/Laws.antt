@@ -1,4 +1,4 @@
--- Texts put one after another, how long a line can be, and what is printed for one record more. Assumes nothing.
+-- Places have few digits, and what is printed for one record more. Assumes nothing.
 use mathlib.Core.Path.{_≡_, refl, sym, ap, _∙_}
 use mathlib.Core.Bool.{Bool, true, false}
 use mathlib.Core.List.{List, [], _∷_, _++_, append-assoc, append-nil}
@@ -15,48 +15,13 @@ use Rattle.places.specs.PlaceCalls.{placeAnswer}
 use Rattle.kinds.proofs.Digits.{major-lt, minor-lt}
 use Rattle.kinds.proofs.Table.{layoutAt, sane}
 use Rattle.places.proofs.ByRule.{place-legal, placed-inside}
-use Rattle.lookup_text.specs.Text.{decimal, lineOf, printed, shortText, Put}
+use Rattle.lookup_text.specs.Text.{lineOf, printed, shortText}
+use Rattle.text.specs.Text.{decimal, Put}
+use Rattle.text.proofs.Laws.{put-put, decimal-length}
 
--- no text, one byte, and a text after a text
-pub put-none : (xs : List ℕ) (at : ℕ) → Put [] xs at xs at
-put-none xs at = record { says = sym (append-nil (take at xs)); ends = omega arith; behind = refl; keeps = refl }
-
-pub put-one : (xs : List ℕ) (at b : ℕ) → at < length xs → Put (b ∷ []) xs at (set xs at b) (at + 1)
-put-one xs at b h = record { says = rw add-one (take-suc-set xs at b h); ends = refl; behind = drop-set-lt (at + 1) xs at b (omega arith); keeps = length-set xs at b }
-
-pub put-put : {t u xs ys zs : List ℕ} {a b c : ℕ} → Put t xs a ys b → Put u ys b zs c → Put (t ++ u) xs a zs c
-put-put {t} {u} {xs} {ys} {zs} {a} {b} {c} p q = record {
-  says = q .says ∙ ap (λ (l : List ℕ). l ++ u) (p .says) ∙ append-assoc (take a xs) t u;
-  ends = simp length-append (omega arith);
-  behind = q .behind ∙ further b c ys xs (p .behind) (omega (arith, q .ends));
-  keeps = q .keeps ∙ p .keeps;
-}
-  where
-    further : (b c : ℕ) (ys xs : List ℕ) → drop b ys ≡ drop b xs → b ≤ c → drop c ys ≡ drop c xs
-    further b c ys xs e h =
-        let n : c ≡ b + (c - b) = omega arith in
-        ap (λ (m : ℕ). drop m ys) n ∙ sym (drop-drop (c - b) b ys) ∙ ap (drop (c - b)) e ∙ drop-drop (c - b) b xs ∙ ap (λ (m : ℕ). drop m xs) (sym n)
-
-pub put-ends : {t xs ys : List ℕ} {a b : ℕ} → Put t xs a ys b → (n : ℕ) → length t ≤ n → b ≤ a + n
-put-ends p n h = omega arith
-
--- so many bytes at the start of a buffer
-pub counts : (n : ℕ) (xs : List ℕ) → n ≤ length xs → (n ≤ length xs) × (n ≡ length (take n xs))
-counts n xs h = (h, sym (length-take-le n xs h))
-
--- no number takes more than three digits
-shorter : (t : Bool) (n : ℕ) (xs ys : List ℕ) → length xs ≤ n → length ys ≤ n → length (if t then xs else ys) ≤ n
-shorter true n xs ys p q = p
-shorter false n xs ys p q = q
-
-pub decimal-length : (n : ℕ) → length (decimal n) ≤ 3
-unfolding decimal
-decimal-length n = shorter (n <? 10) 3 _ _ (omega arith) (shorter (n <? 100) 3 _ _ (omega arith) (omega arith))
-
-line-length : (a : Answer (ℕ × ℕ)) → length (lineOf a) ≤ 12
-unfolding lineOf
-line-length (given x) = simp length-append (omega (arith, decimal-length (x .0), decimal-length (x .1)))
-line-length (refusal n d) = simp length-append (omega (arith, decimal-length n))
+-- a number below 1,000 takes at most three digits
+pub three : (n : ℕ) → n < 1000 → length (decimal n) ≤ 3
+three n h = decimal-length 2 20 n h
 
 -- every row and column is below 1,000
 turn-lt : (t : Bool) (n x y : ℕ) → x < n → y < n → (turn t (x, y) .0 < n) × (turn t (x, y) .1 < n)
@@ -126,9 +91,9 @@ module _ (xs : List ℕ) (n : ℕ) (w : n % 4 ≡ 0) where
   printed-more h = rw (take-add n 4 xs, record-at h) (joined (omega arith) _ ∙ simp append-nil)
 
 -- one record more was put
-pub put-record : (xs : List ℕ) (i : ℕ) {ps qs rs : List ℕ} {m n : ℕ} → 4 * i + 4 ≤ length xs → m ≤ 12 * i
+pub put-record : (xs : List ℕ) (i : ℕ) {ps qs rs : List ℕ} {m n : ℕ} → 4 * i + 4 ≤ length xs
     → Put (printed (take (4 * i) xs)) ps 0 qs m → Put (lineAt xs (4 * i)) qs m rs n
-    → (n ≤ 12 * (i + 1)) × Put (printed (take (4 * (i + 1)) xs)) ps 0 rs n
-put-record xs i h l p q =
+    → Put (printed (take (4 * (i + 1)) xs)) ps 0 rs n
+put-record xs i h p q =
     let more : 4 * (i + 1) ≡ 4 * i + 4 = omega arith in
-    (omega (arith, line-length (answerAt xs (4 * i))), rw (more, printed-more xs (4 * i) (omega arith) h) (put-put p q))
+    rw (more, printed-more xs (4 * i) (omega arith) h) (put-put p q)

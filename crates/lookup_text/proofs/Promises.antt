@@ -5,11 +5,13 @@ use Prim.Native.Nat.{ℕ, _%_}
 use lib.ListN.{length}
 use Rattle.kinds.specs.Places.{placeOf}
 use Rattle.places.specs.PlaceCalls.{placeAnswer}
-use Rattle.lookup_text.specs.Text.{decimal, lineOf, printed}
+use Rattle.text.specs.Text.{decimalIn}
+use Rattle.lookup_text.specs.Text.{lineOf, printed}
 use Rattle.lookup_text.proofs.Laws as laws
 
 -- Read in pieces that end at whole records, an input prints what it prints read at once.
-pub printed-joined : (whole rest : List ℕ) → length whole % 4 ≡ 0 → printed (whole ++ rest) ≡ printed whole ++ printed rest
+pub printed-joined : (whole rest : List ℕ) → length whole % 4 ≡ 0
+    → printed (whole ++ rest) ≡ printed whole ++ printed rest
 printed-joined = laws.printed-joined
 
 -- The input of document 01's example prints `15 63`, `9 1`, `refused 1` and `short record`, each with a newline.
@@ -18,5 +20,5 @@ pub example : printed (5 ∷ 0 ∷ 31 ∷ 31 ∷ 8 ∷ 0 ∷ 5 ∷ 1 ∷ 11 ∷ 
     ∷ 57 ∷ 32 ∷ 49 ∷ 10
     ∷ 114 ∷ 101 ∷ 102 ∷ 117 ∷ 115 ∷ 101 ∷ 100 ∷ 32 ∷ 49 ∷ 10
     ∷ 115 ∷ 104 ∷ 111 ∷ 114 ∷ 116 ∷ 32 ∷ 114 ∷ 101 ∷ 99 ∷ 111 ∷ 114 ∷ 100 ∷ 10 ∷ []
-unfolding printed lineOf decimal placeAnswer placeOf
+unfolding printed lineOf decimalIn placeAnswer placeOf
 example = refl

@@ -1,21 +1,9 @@
 -- Document 01, 'The lookup program': what it prints, as a list of bytes. Assumes nothing.
-use Prim.Native.Nat.{ℕ, _+_, _/_, _%_}
-use mathlib.Core.Path.{_≡_}
+use Prim.Native.Nat.{ℕ}
 use mathlib.Core.List.{List, [], _∷_, _++_}
-use lib.ListN.{length, take, drop}
-use Rattle.laws.specs.Choice.{if_then_else_, _<?_}
+use Rattle.text.specs.Text.{decimal}
 use Rattle.answers.specs.Refusals.{Answer, given, refusal}
 use Rattle.places.specs.PlaceCalls.{placeAnswer}
-
--- a number below 1,000 in decimal, with no zero in front; every row, column and refusal number is below 1,000
-abbrev pub digit : ℕ → ℕ
-digit n = 48 + n
-
-unfoldable pub decimal : ℕ → List ℕ
-decimal n =
-    if n <? 10 then digit n ∷ []
-    else if n <? 100 then digit (n / 10) ∷ digit (n % 10) ∷ []
-    else digit (n / 100) ∷ digit (n / 10 % 10) ∷ digit (n % 10) ∷ []
 
 abbrev pub space : ℕ
 space = 32
@@ -44,10 +32,3 @@ printed (_ ∷ []) = shortText
 printed (_ ∷ _ ∷ []) = shortText
 printed (_ ∷ _ ∷ _ ∷ []) = shortText
 printed (kind ∷ role ∷ lane ∷ element ∷ rest) = lineOf (placeAnswer kind role lane element) ++ printed rest
-
--- a text was put into a buffer at a place: before the new end stands what stood before the place, and the text; behind it, what stood there
-pub record Put (text : List ℕ) (before : List ℕ) (at : ℕ) (after : List ℕ) (end : ℕ) : Type 0 where
-  pub says : take end after ≡ take at before ++ text
-  pub ends : end ≡ at + length text
-  pub behind : drop end after ≡ drop end before
-  pub keeps : length after ≡ length before

@@ -1,11 +1,11 @@
 // What the lookup program prints for its input: a line for each record of four bytes.
-ghost use mathlib.Core.List.{[], _∷_};
 ghost use mathlib.Core.Path.{_≡_};
 ghost use Prim.Native.Nat.{_+_, _*_, _/_, _<_, _≤_};
 ghost use lib.ListN.{length, take};
 ghost use Rattle.answers.specs.Refusals.{given, refusal};
 ghost use Rattle.places.specs.PlaceCalls.{placeAnswer};
-ghost use Rattle.lookup_text.specs.Text.{decimal, lineOf, printed, Put};
+ghost use Rattle.lookup_text.specs.Text.{lineOf, printed};
+ghost use Rattle.text.specs.Text.{Put};
 use kinds::Column;
 use kinds::Element;
 use kinds::Kind;
@@ -14,75 +14,34 @@ use kinds::Role;
 use kinds::Row;
 use places::Placed;
 
-// Each `put` puts a text into out at a place, and answers the place after it.
-fn put(out: &mut [u8], at: usize, b: u8) -> usize
-    requires { ⌜ at + 1 ≤ length (now out) ⌝ }
-    ensures { λ r. ⌜ Put (b ∷ []) (now (out .entry)) at (now (out .exit)) r ⌝ }
-{
-    out[at] = b;
-    at + 1
-}
-
-fn put_text(out: &mut [u8], at: usize, text: &[u8]) -> usize
-    requires { ⌜ at + length (now text) ≤ length (now out) ⌝ }
-    ensures { λ r. ⌜ Put (now (text .entry)) (now (out .entry)) at (now (out .exit)) r ⌝ }
-{
-    let mut i = 0;
-    while i < text.len() {
-        out[at + i] = text[i];
-        i += 1;
-    }
-    at + i
-}
-
-fn put_digit(out: &mut [u8], at: usize, n: u32) -> usize
-    requires { ⌜ (at + 1 ≤ length (now out)) × (n < 10) ⌝ }
-    ensures { λ r. ⌜ Put ((48 + n) ∷ []) (now (out .entry)) at (now (out .exit)) r ⌝ }
-{
-    put(out, at, 48 + n as u8)
-}
-
-fn put_decimal(out: &mut [u8], at: usize, n: u32) -> usize
-    requires { ⌜ (at + 3 ≤ length (now out)) × (n < 1000) ⌝ }
-    ensures { λ r. ⌜ Put (decimal n) (now (out .entry)) at (now (out .exit)) r ⌝ }
-{
-    if n < 10 {
-        return put_digit(out, at, n);
-    }
-    if n < 100 {
-        let next = put_digit(out, at, n / 10);
-        return put_digit(out, next, n % 10);
-    }
-    let next = put_digit(out, at, n / 100);
-    let last = put_digit(out, next, n / 10 % 10);
-    put_digit(out, last, n % 10)
-}
-
+// Each function puts a text into out at a place, and answers the place after it.
 fn put_place(out: &mut [u8], at: usize, row: Row, column: Column) -> usize
     requires { ⌜ (at + 8 ≤ length (now out)) × (row .0 < 1000) × (column .0 < 1000) ⌝ }
-    ensures { λ r. ⌜ Put (lineOf (given (row .0, column .0))) (now (out .entry)) at (now (out .exit)) r ⌝ }
+    ensures { λ r. ⌜ Put (lineOf (given (row .0, column .0))) (now (out .entry)) at (now (out .exit)) r × (r ≤ at + 12)
+        ⌝ }
 {
-    let x = row.0;
-    let y = column.0;
-    let after_row = put_decimal(out, at, x);
-    let after_space = put(out, after_row, b' ');
-    let after_column = put_decimal(out, after_space, y);
-    put(out, after_column, b'\n')
+    let x = row.0 as u64;
+    let y = column.0 as u64;
+    let after_row = text::put_decimal(out, at, x);
+    let after_space = text::put(out, after_row, b' ');
+    let after_column = text::put_decimal(out, after_space, y);
+    text::put(out, after_column, b'\n')
 }
 
 fn put_refused(out: &mut [u8], at: usize, number: u32) -> usize
     requires { ⌜ (at + 12 ≤ length (now out)) × (number < 1000) ⌝ }
-    ensures { λ r. ⌜ Put (lineOf (refusal number 0)) (now (out .entry)) at (now (out .exit)) r ⌝ }
+    ensures { λ r. ⌜ Put (lineOf (refusal number 0)) (now (out .entry)) at (now (out .exit)) r × (r ≤ at + 12) ⌝ }
 {
-    let after_text = put_text(out, at, b"refused ");
-    let after_number = put_decimal(out, after_text, number);
-    put(out, after_number, b'\n')
+    let after_text = text::put_text(out, at, b"refused ");
+    let after_number = text::put_decimal(out, after_text, number as u64);
+    text::put(out, after_number, b'\n')
 }
 
 // The line of one record.
 pub fn put_line(out: &mut [u8], at: usize, kind: u8, role: u8, lane: u8, element: u8) -> usize
     requires { ⌜ at + 12 ≤ length (now out) ⌝ }
-    ensures { λ r. ⌜ Put (lineOf (placeAnswer kind role lane element)) (now (out .entry)) at (now (out .exit)) r ⌝ }
+    ensures { λ r. ⌜ Put (lineOf (placeAnswer kind role lane element)) (now (out .entry)) at (now (out .exit)) r ×
+        (r ≤ at + 12) ⌝ }
 {
     match places::place(
         Kind(kind as u32),
@@ -118,7 +77,7 @@ pub fn put_lines(records: &[u8], out: &mut [u8]) -> usize
         i += 1;
     }
     if 4 * whole < records.len() {
-        at = put_text(out, at, b"short record\n");
+        at = text::put_text(out, at, b"short record\n");
     }
     at
 }

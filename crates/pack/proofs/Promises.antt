@@ -23,7 +23,8 @@ pack-accepted k r m ws e =
     (record { low = search p; high = search p; role = search p }, search p, search p, search p)
 
 -- 'every field of every word is the entry at its place'
-pub packed-at : (k r : ℕ) (m ws : List ℕ) → packAnswer k r m ws ≡ given tt → (lane i : ℕ) (x : ℕ × ℕ) → placeAnswer k r lane i ≡ given x
+pub packed-at : (k r : ℕ) (m ws : List ℕ) → packAnswer k r m ws ≡ given tt → (lane i : ℕ) (x : ℕ × ℕ)
+    → placeAnswer k r lane i ≡ given x
     → elementIn k r (packedOf k r m) lane i ≡ getD m (indexIn k r x) 0
 packed-at k r m ws a lane i x e =
     let c = pack-accepted k r m ws a in
@@ -34,7 +35,8 @@ packed-at k r m ws a lane i x e =
     ∙ ap (λ (z : ℕ). getD m z 0) (ap (index (columnsOf (layoutAt k r))) (sym (p .2)) ∙ index-is k r ok x)
 
 -- and no other words have that property.
-pub packed-only : (k r : ℕ) → Legal k r → (m ws : List ℕ) → length m ≡ entriesNeeded k r → length ws ≡ wordsNeeded k r → Fitting 32 ws
+pub packed-only : (k r : ℕ) → Legal k r → (m ws : List ℕ) → length m ≡ entriesNeeded k r → length ws ≡ wordsNeeded k r
+    → Fitting 32 ws
     → ((lane i : ℕ) (x : ℕ × ℕ) → placeAnswer k r lane i ≡ given x → elementIn k r ws lane i ≡ getD m (indexIn k r x) 0) → ws ≡ packedOf k r m
 packed-only k r ok m ws nm nw fw at =
     round.packed-only (layoutAt k r) (laid k r ok) m ws (nm ∙ sym (entries-needed k r ok)) fw (nw ∙ sym (words-needed k r ok))
@@ -48,5 +50,6 @@ pack-unpack k r m ws a =
     round.pack-unpack (layoutAt k r) (laid k r ok) m (subst (λ (b : ℕ). Fitting b m) (bits-are k r ok) (c .3)) (c .1 ∙ sym (entries-needed k r ok))
 
 -- unpacked and packed, for every warp of 32-bit words of the right length.
-pub unpack-pack : (k r : ℕ) → Legal k r → (ws : List ℕ) → length ws ≡ wordsNeeded k r → Fitting 32 ws → packedOf k r (unpackedOf k r ws) ≡ ws
+pub unpack-pack : (k r : ℕ) → Legal k r → (ws : List ℕ) → length ws ≡ wordsNeeded k r → Fitting 32 ws
+    → packedOf k r (unpackedOf k r ws) ≡ ws
 unpack-pack k r ok ws n fit = round.unpack-pack (layoutAt k r) (laid k r ok) ws fit (n ∙ sym (words-needed k r ok))

@@ -42,9 +42,11 @@ fn gather(matrix: &[u64], bits: usize, base: usize, step: usize, count: usize) -
 // The words of a lane that hold one stretch, into the lane's own part of the buffer: the fields of a word, or one element, which takes a
 // word or two, the low half first.
 fn write_lane(matrix: &[u64], part: &mut [u32], f: Layout, stretch: Stretch, lane: Lane)
-    requires { ⌜ Laid f × Fitting (f .bits) (now matrix) × (length (now matrix) ≡ rowsOf f * columnsOf f) × (length (now part) ≡ f .words) ⌝ }
+    requires { ⌜ Laid f × Fitting (f .bits) (now matrix) × (length (now matrix) ≡ rowsOf f * columnsOf f) ×
+        (length (now part) ≡ f .words) ⌝ }
     requires { ⌜ (stretch .0 < stretchesOf f) × (lane .0 < lanes) ⌝ }
-    ensures { λ _. ⌜ now (part .exit) ≡ stores (stretch .0 * holdingOf f) 1 (holdingOf f) (λ k. wordAt f (now (matrix .entry)) (lane .0) (stretch .0 * holdingOf f + k)) (now (part .entry)) ⌝ }
+    ensures { λ _. ⌜ now (part .exit) ≡ stores (stretch .0 * holdingOf f) 1 (holdingOf f)
+        (λ k. wordAt f (now (matrix .entry)) (lane .0) (stretch .0 * holdingOf f + k)) (now (part .entry)) ⌝ }
 {
     let base = buffers::base_of(f, stretch, lane);
     let r = stretch.0;
@@ -65,7 +67,8 @@ fn write_lane(matrix: &[u64], part: &mut [u32], f: Layout, stretch: Stretch, lan
 // The same stretch of a quad's lanes, and of every quad's.
 fn put_quad(matrix: &[u64], words: &mut [u32], f: Layout, stretch: Stretch, quad: Quad)
     requires { ⌜ Packs f (now matrix) (now words) × (stretch .0 < stretchesOf f) × (quad .0 < 8) ⌝ }
-    ensures { λ _. ⌜ Brings (packed f (now (matrix .entry))) (WordsOfQuad f (holdingOf f) (stretch .0) (quad .0)) (now (words .entry)) (now (words .exit)) ⌝ }
+    ensures { λ _. ⌜ Brings (packed f (now (matrix .entry))) (WordsOfQuad f (holdingOf f) (stretch .0) (quad .0))
+        (now (words .entry)) (now (words .exit)) ⌝ }
 {
     for t in 0..Lane::QUAD {
         let lane = quad.lane(t);
@@ -77,7 +80,8 @@ fn put_quad(matrix: &[u64], words: &mut [u32], f: Layout, stretch: Stretch, quad
 
 fn put_quads(matrix: &[u64], words: &mut [u32], f: Layout, stretch: Stretch)
     requires { ⌜ Packs f (now matrix) (now words) × (stretch .0 < stretchesOf f) ⌝ }
-    ensures { λ _. ⌜ Brings (packed f (now (matrix .entry))) (Below 8 (WordsOfQuad f (holdingOf f) (stretch .0))) (now (words .entry)) (now (words .exit)) ⌝ }
+    ensures { λ _. ⌜ Brings (packed f (now (matrix .entry))) (Below 8 (WordsOfQuad f (holdingOf f) (stretch .0)))
+        (now (words .entry)) (now (words .exit)) ⌝ }
 {
     for quad in 0..Quad::COUNT {
         put_quad(matrix, words, f, stretch, Quad(quad));
@@ -111,7 +115,8 @@ fn first_wide(matrix: &[u64], bits: usize) -> usize
 
 fn pack_in(f: Layout, matrix: &[u64], words: &mut [u32]) -> Verdict
     requires { ⌜ Laid f ⌝ }
-    ensures { λ r. ⌜ Meets (packCallIn f (now (matrix .entry)) (now (words .entry))) (now (words .entry)) r (now (words .exit)) ⌝ }
+    ensures { λ r. ⌜ Meets (packCallIn f (now (matrix .entry)) (now (words .entry))) (now (words .entry)) r
+        (now (words .exit)) ⌝ }
 {
     let each = f.words;
     let bits = f.bits;
@@ -133,7 +138,8 @@ fn pack_in(f: Layout, matrix: &[u64], words: &mut [u32]) -> Verdict
 
 // The row-major matrix of bit patterns to lane words.
 pub fn pack(kind: Kind, role: Role, matrix: &[u64], words: &mut [u32]) -> Verdict
-    ensures { λ r. ⌜ Meets (packCall (kind .0) (role .0) (now (matrix .entry)) (now (words .entry))) (now (words .entry)) r (now (words .exit)) ⌝ }
+    ensures { λ r. ⌜ Meets (packCall (kind .0) (role .0) (now (matrix .entry)) (now (words .entry)))
+        (now (words .entry)) r (now (words .exit)) ⌝ }
 {
     match kinds::layout_of(kind, role) {
         Known::As(f) => pack_in(f, matrix, words),

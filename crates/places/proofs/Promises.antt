@@ -38,7 +38,8 @@ one-to-one k r l i x y = (there, back)
         ∙ ap given (turn-turn t (x, y))
 
 -- Document 01's rules, a clause a kind and role, are the one rule at every lane and element.
-pub one-rule : (k r l i : ℕ) → Legal k r → l < lanes → i < elementsAt k r → placeOf (kindOf k) (roleOf r) l i ≡ placeIn (layoutAt k r) l i
+pub one-rule : (k r l i : ℕ) → Legal k r → l < lanes → i < elementsAt k r
+    → placeOf (kindOf k) (roleOf r) l i ≡ placeIn (layoutAt k r) l i
 one-rule = whole-at
 
 -- 'Show that no second answer satisfies it': two answers of place that meet its contract are equal, and two of the reverse question.
@@ -60,8 +61,10 @@ unfolding heldOf
 held-back (By l i) = refl
 held-back (Held·Refused f) = ap Held·Refused (refusal-back f)
 
-pub one-place : (k r l i : ℕ) (a b : Placed) → Replies (placeCall k r l i) (toldPlace a) → Replies (placeCall k r l i) (toldPlace b) → a ≡ b
+pub one-place : (k r l i : ℕ) (a b : Placed) → Replies (placeCall k r l i) (toldPlace a)
+    → Replies (placeCall k r l i) (toldPlace b) → a ≡ b
 one-place k r l i a b m n = one-answer toldPlace placedOf placed-back a b (toldPlace b) (no-second-reply m n) refl
 
-pub one-holder : (k r x y : ℕ) (a b : Held) → Replies (findCall k r x y) (toldHolder a) → Replies (findCall k r x y) (toldHolder b) → a ≡ b
+pub one-holder : (k r x y : ℕ) (a b : Held) → Replies (findCall k r x y) (toldHolder a)
+    → Replies (findCall k r x y) (toldHolder b) → a ≡ b
 one-holder k r x y a b m n = one-answer toldHolder heldOf held-back a b (toldHolder b) (no-second-reply m n) refl

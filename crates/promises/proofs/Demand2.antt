@@ -49,7 +49,8 @@ place-at k r lane i ok l h =
     (λ n. n (ok .low, ok .high), (λ n. omega (arith, n, ok .role), (⊎-elim (λ m. omega (arith, l, m)) (λ m. omega (arith, h, m)), tt)))
 
 -- 'one to one, and the reverse question is answered too', for all numbers, legal or not
-pub one-to-one : (k r lane i row column : ℕ) → (placeAnswer k r lane i ≡ given (row, column)) ↔ (findAnswer k r row column ≡ given (lane, i))
+pub one-to-one : (k r lane i row column : ℕ)
+    → (placeAnswer k r lane i ≡ given (row, column)) ↔ (findAnswer k r row column ≡ given (lane, i))
 one-to-one = places.one-to-one
 
 -- so that each row and column of the matrix is the place of one lane and element, and of no other.
@@ -65,7 +66,8 @@ exactly-one k r ok row column hr hc =
     = rule-placed k r ok (z .0) (z .1) (lane-in f w row column hr′ hc′) (element-in f w row column hr′ hc′) ∙ ap given (place-back f w row column hr′ hc′) in
     (z, there, λ lane i e. only-one k r row column (lane, i) z e there)
   where
-    only-one : (k r row column : ℕ) (y z : ℕ × ℕ) → placeAnswer k r (y .0) (y .1) ≡ given (row, column) → placeAnswer k r (z .0) (z .1) ≡ given (row, column) → y ≡ z
+    only-one : (k r row column : ℕ) (y z : ℕ × ℕ) → placeAnswer k r (y .0) (y .1) ≡ given (row, column)
+        → placeAnswer k r (z .0) (z .1) ≡ given (row, column) → y ≡ z
     only-one k r row column y z e e′ =
         let p = places.one-to-one k r (y .0) (y .1) row column .0 e in
         let q = places.one-to-one k r (z .0) (z .1) row column .0 e′ in
@@ -118,7 +120,8 @@ pub unpacked-only : (k r : ℕ) → Legal k r → (ws m : List ℕ) → length m
 unpacked-only k r ok ws m n at = unpacking.unpacked-only k r ok ws m n (λ lane i x e. at lane i (x .0) (x .1) e)
 
 -- 'packed warp': after an accepted pack each element of each lane is the entry at its place,
-pub packed-at : (k r : ℕ) (m ws : List ℕ) → packAnswer k r m ws ≡ given tt → (lane i row column : ℕ) → placeAnswer k r lane i ≡ given (row, column)
+pub packed-at : (k r : ℕ) (m ws : List ℕ) → packAnswer k r m ws ≡ given tt → (lane i row column : ℕ)
+    → placeAnswer k r lane i ≡ given (row, column)
     → elementIn k r (packedOf k r m) lane i ≡ getD m (row * columnsAt k r + column) 0
 packed-at k r m ws a lane i row column e = packing.packed-at k r m ws a lane i (row, column) e
 
@@ -134,12 +137,14 @@ pub pack-unpack : (k r : ℕ) (m ws : List ℕ) → packAnswer k r m ws ≡ give
 pack-unpack k r m ws a = packing.pack-unpack k r m ws a
 
 -- 'and packing what was unpacked the words.'
-pub unpack-pack : (k r : ℕ) → Legal k r → (ws : List ℕ) → length ws ≡ wordsNeeded k r → ((x : ℕ) → x < length ws → getD ws x 0 < 2 ^ 32)
+pub unpack-pack : (k r : ℕ) → Legal k r → (ws : List ℕ) → length ws ≡ wordsNeeded k r
+    → ((x : ℕ) → x < length ws → getD ws x 0 < 2 ^ 32)
     → packedOf k r (unpackedOf k r ws) ≡ ws
 unpack-pack k r ok ws n fit = packing.unpack-pack k r ok ws n fit
 
 -- 'every .. step': the words of D as a whole. No other words of D's length have the step's result at every row and column.
-pub stepped-only : (k signs mode : ℕ) → Arithmetic k → (a b c ws : List ℕ) → length ws ≡ wordsNeeded k 2 → ((x : ℕ) → x < length ws → getD ws x 0 < 2 ^ 32)
+pub stepped-only : (k signs mode : ℕ) → Arithmetic k → (a b c ws : List ℕ) → length ws ≡ wordsNeeded k 2
+    → ((x : ℕ) → x < length ws → getD ws x 0 < 2 ^ 32)
     → ((row column : ℕ) → row < rowsAt k 2 → column < columnsAt k 2 → entryIn k 2 ws row column ≡ resultAt k signs mode a b c row column)
     → ws ≡ stepped k signs mode a b c
 unfolding entryIn results stepped
@@ -161,11 +166,13 @@ module _ (k signs : ℕ) (known : Arithmetic k) (integers : Says (integer k)) (s
   ready : (mode : ℕ) → mode ≤ 1 → Ready k signs mode
   ready mode h = record { of = known; signs-le = signs-le; mode-le = h; plain = λ e. absurd (omega (arith, e, integers)) }
 
-  integer-is : (mode : ℕ) → resultAt k signs mode a b c row column ≡ cellOf mode (entryIn k 2 c row column) (products k signs a b row column)
+  integer-is : (mode : ℕ)
+      → resultAt k signs mode a b c row column ≡ cellOf mode (entryIn k 2 c row column) (products k signs a b row column)
   unfolding resultAt added
   integer-is mode = simp (not-one-bit k integers)
 
-  entry-is : (mode : ℕ) → mode ≤ 1 → entryIn k 2 (stepped k signs mode a b c) row column ≡ cellOf mode (entryIn k 2 c row column) (products k signs a b row column)
+  entry-is : (mode : ℕ) → mode ≤ 1
+      → entryIn k 2 (stepped k signs mode a b c) row column ≡ cellOf mode (entryIn k 2 c row column) (products k signs a b row column)
   entry-is mode h = steps.result-at k signs mode (ready mode h) a b c row column hr hc ∙ integer-is mode
 
   -- 'Mode 0 wraps the exact result to 32 bits': D's signed number differs from the exact result by a multiple of 2^32.

@@ -48,7 +48,8 @@ module _ (k signs mode : ℕ) (c : List ℕ) (opened : openAnswer k signs mode (
   ready = open-accepted k signs mode (length c) opened .0
 
   -- '0 to 4,096 blocks': blocks fed into it are accepted throughout exactly when there are at most 4,096, each of the lengths needed.
-  pub accepted-all : (xs : List Block) → AllAccepted (openedRun k signs mode c) xs ↔ ((length xs ≤ 4096) × AllSized k xs)
+  pub accepted-all : (xs : List Block)
+      → AllAccepted (openedRun k signs mode c) xs ↔ ((length xs ≤ 4096) × AllSized k xs)
   unfolding openedRun
   accepted-all xs = (there, λ s. accepted-each k signs mode ready 0 (withUsed c zeros) xs (omega (arith, s .0)) (s .1))
     where
@@ -56,18 +57,22 @@ module _ (k signs mode : ℕ) (c : List ℕ) (opened : openAnswer k signs mode (
       there a = let s = sized-all k signs mode ready 0 (withUsed c zeros) xs (omega arith) a in (omega (arith, s .0), s .1)
 
   -- The number in the run is the number of blocks,
-  pub counted : (xs : List Block) → length xs ≤ 4096 → AllSized k xs → fedAll (openedRun k signs mode c) xs .blocks ≡ length xs
+  pub counted : (xs : List Block) → length xs ≤ 4096 → AllSized k xs
+      → fedAll (openedRun k signs mode c) xs .blocks ≡ length xs
   counted xs n s = runs.counted k signs mode c opened xs (accepted-all xs .1 (n, s))
 
   -- also where refused feeds stand between: the run is that of the accepted ones alone, of which the three sentences below speak, and the number is how
   -- many they are.
-  pub refused-between : (xs : List Block) → fedAll (openedRun k signs mode c) xs ≡ fedAll (openedRun k signs mode c) (acceptedOf (openedRun k signs mode c) xs)
+  pub refused-between : (xs : List Block)
+      → fedAll (openedRun k signs mode c) xs ≡ fedAll (openedRun k signs mode c) (acceptedOf (openedRun k signs mode c) xs)
   refused-between xs = runs.fed-accepted (openedRun k signs mode c) xs
 
-  pub accepted-between : (xs : List Block) → (length (acceptedOf (openedRun k signs mode c) xs) ≤ 4096) × AllSized k (acceptedOf (openedRun k signs mode c) xs)
+  pub accepted-between : (xs : List Block)
+      → (length (acceptedOf (openedRun k signs mode c) xs) ≤ 4096) × AllSized k (acceptedOf (openedRun k signs mode c) xs)
   accepted-between xs = accepted-all (acceptedOf (openedRun k signs mode c) xs) .0 (runs.accepted-of (openedRun k signs mode c) xs)
 
-  pub counted-between : (xs : List Block) → fedAll (openedRun k signs mode c) xs .blocks ≡ length (acceptedOf (openedRun k signs mode c) xs)
+  pub counted-between : (xs : List Block)
+      → fedAll (openedRun k signs mode c) xs .blocks ≡ length (acceptedOf (openedRun k signs mode c) xs)
   counted-between xs =
       let a = accepted-between xs in
       ap (λ (r : Run). r .blocks) (refused-between xs) ∙ counted (acceptedOf (openedRun k signs mode c) xs) (a .0) (a .1)
@@ -80,14 +85,16 @@ module _ (k signs mode : ℕ) (c : List ℕ) (opened : openAnswer k signs mode (
       ∙ ap (λ (r : Run). r .kind .0) (fed-kept k signs mode ready 0 (withUsed c zeros) (acceptedOf (openedRun k signs mode c) xs) (runs.accepted-of (openedRun k signs mode c) xs) .1)
 
   -- and after 4,096 blocks every further one is refused 9.
-  pub no-more : (xs : List Block) → length xs ≡ 4096 → AllSized k xs → (a b : List ℕ) → feedAnswer (fedAll (openedRun k signs mode c) xs) (length a) (length b) ≡ refusal 9 0
+  pub no-more : (xs : List Block) → length xs ≡ 4096 → AllSized k xs → (a b : List ℕ)
+      → feedAnswer (fedAll (openedRun k signs mode c) xs) (length a) (length b) ≡ refusal 9 0
   no-more xs n s a b = runs.no-more k signs mode c opened xs (accepted-all xs .1 (omega arith, s)) n (length a) (length b)
 
   -- at a place of D: the start there is C's entry, and each block contributes its exact products or its bit count
   module _ (row column : ℕ) (hr : row < rowsAt k 2) (hc : column < columnsAt k 2) where
     -- 'with wrapping (and always in the one-bit form) each sum is the signed 32-bit number congruent to start plus all exact products modulo 2^32,
     -- in every order'
-    pub wrapped-total : (mode ≡ 0) ⊎ Says (oneBit k) → (xs ys : List Block) → length xs ≤ 4096 → AllSized k xs → List·Permᴰ xs ys
+    pub wrapped-total : (mode ≡ 0) ⊎ Says (oneBit k) → (xs ys : List Block) → length xs ≤ 4096 → AllSized k xs
+        → List·Permᴰ xs ys
         → Wraps (sumAt (fedAll (openedRun k signs mode c) ys) row column) (int32 (entryIn k 2 c row column) +ℤ total (contributions k signs mode row column xs))
     wrapped-total w xs ys n s d = runs.wrapped-total k signs mode c opened row column hr hc w xs ys (accepted-all xs .1 (n, s)) d .1
 
@@ -101,8 +108,10 @@ module _ (k signs mode : ℕ) (c : List ℕ) (opened : openAnswer k signs mode (
         (entry-lt k (ready .of) (usedOf (fedAll (openedRun k signs mode c) xs)) row column hr hc)
 
     -- and no other signed 32-bit number is.
-    pub wrapped-only : (mode ≡ 0) ⊎ Says (oneBit k) → (xs ys : List Block) → length xs ≤ 4096 → AllSized k xs → List·Permᴰ xs ys
-        → (w : ℕ) → w < 2 ^ 32 → Wraps (int32 w) (int32 (entryIn k 2 c row column) +ℤ total (contributions k signs mode row column xs))
+    pub wrapped-only : (mode ≡ 0) ⊎ Says (oneBit k) → (xs ys : List Block) → length xs ≤ 4096 → AllSized k xs
+        → List·Permᴰ xs ys
+        → (w : ℕ) → w < 2 ^ 32
+        → Wraps (int32 w) (int32 (entryIn k 2 c row column) +ℤ total (contributions k signs mode row column xs))
         → int32 w ≡ sumAt (fedAll (openedRun k signs mode c) ys) row column
     unfolding sumAt
     wrapped-only one xs ys n s d w l h =
@@ -110,7 +119,8 @@ module _ (k signs mode : ℕ) (c : List ℕ) (opened : openAnswer k signs mode (
         ap int32 (wraps-only w _ l h ∙ sym (wraps-only _ _ (below ys (t .0)) (t .1)))
 
     -- 'with saturation, where no contribution to a place is negative or none is positive, the exact total clamped, in every order'
-    pub clamped-total : Says (integer k) → mode ≡ 1 → (xs ys : List Block) → length xs ≤ 4096 → AllSized k xs → List·Permᴰ xs ys
+    pub clamped-total : Says (integer k) → mode ≡ 1 → (xs ys : List Block) → length xs ≤ 4096 → AllSized k xs
+        → List·Permᴰ xs ys
         → NoneNegative (contributions k signs mode row column xs) ⊎ NonePositive (contributions k signs mode row column xs)
         → sumAt (fedAll (openedRun k signs mode c) ys) row column ≡ clamp (int32 (entryIn k 2 c row column) +ℤ total (contributions k signs mode row column xs))
     clamped-total two one xs ys n s d h = runs.clamped-total k signs mode c opened row column hr hc two one xs ys (accepted-all xs .1 (n, s)) d h .1
@@ -121,7 +131,8 @@ module _ (k signs mode : ℕ) (c : List ℕ) (opened : openAnswer k signs mode (
     clamped-each two one xs n s = runs.clamped-each k signs mode c opened row column hr hc two one xs (accepted-all xs .1 (n, s))
 
     -- An accepted read leaves D with these sums, whatever was fed.
-    pub read-sums : (xs : List Block) (d : List ℕ) → readAnswer (fedAll (openedRun k signs mode c) xs) (length d) ≡ given tt
+    pub read-sums : (xs : List Block) (d : List ℕ)
+        → readAnswer (fedAll (openedRun k signs mode c) xs) (length d) ≡ given tt
         → int32 (entryIn k 2 (after (readAnswer (fedAll (openedRun k signs mode c) xs) (length d)) (usedOf (fedAll (openedRun k signs mode c) xs)) d) row column)
         ≡ sumAt (fedAll (openedRun k signs mode c) xs) row column
     unfolding sumAt

@@ -25,4 +25,5 @@ pub data OfBench : (X : Type 0) → Call X → Type 1 where
   openRun : (kind signs mode : ℕ) (c : List ℕ) → OfBench Run (openCall kind signs mode c)
   feedRun : (run : Run) (a b : List ℕ) → OfBench Run (feedCall run a b)
   readRun : (run : Run) (d : List ℕ) → OfBench (List ℕ × Run) (readCall run d)
-  scale : (size side byteId threadId : ℕ) (metadata : List ℕ) (output : List ℤ) → OfBench (List ℤ) (scaleCall size side byteId threadId metadata output)
+  scale : (size side byteId threadId : ℕ) (metadata : List ℕ) (output : List ℤ)
+      → OfBench (List ℤ) (scaleCall size side byteId threadId metadata output)

@@ -55,7 +55,8 @@ module _ (k signs mode : ℕ) (c : List ℕ) (accepted : openAnswer k signs mode
     from-lt : from < 2 ^ 32
     from-lt = entry-lt k (ok .of) c row column hr hc
 
-    sum-is : (xs : List Block) → AllAccepted (openedRun k signs mode c) xs → sumAt (fedAll (openedRun k signs mode c) xs) row column ≡ int32 (fedCell (limit k mode) from (adds xs))
+    sum-is : (xs : List Block) → AllAccepted (openedRun k signs mode c) xs
+        → sumAt (fedAll (openedRun k signs mode c) xs) row column ≡ int32 (fedCell (limit k mode) from (adds xs))
     unfolding sumAt openedRun
     sum-is xs a =
         let s = fed-kept k signs mode ok 0 (withUsed c zeros) xs a in
@@ -63,7 +64,8 @@ module _ (k signs mode : ℕ) (c : List ℕ) (accepted : openAnswer k signs mode
         ∙ ap int32 (fed-at k signs mode ok 0 (withUsed c zeros) xs a row column hr hc)
         ∙ ap (λ (ws : List ℕ). int32 (fedCell (limit k mode) (entryIn k 2 ws row column) (adds xs))) used-start
 
-    order : {xs ys : List Block} → List·Permᴰ xs ys → AllAccepted (openedRun k signs mode c) xs → AllAccepted (openedRun k signs mode c) ys
+    order : {xs ys : List Block} → List·Permᴰ xs ys → AllAccepted (openedRun k signs mode c) xs
+        → AllAccepted (openedRun k signs mode c) ys
     unfolding openedRun
     order d a = accepted-order k signs mode ok 0 (withUsed c zeros) (omega arith) d a
 
@@ -77,7 +79,8 @@ module _ (k signs mode : ℕ) (c : List ℕ) (accepted : openAnswer k signs mode
         either false = e
     wrapping (inr e) = simp (says (oneBit k) .1 e)
 
-    pub wrapped-total : (mode ≡ 0) ⊎ Says (oneBit k) → (xs ys : List Block) → AllAccepted (openedRun k signs mode c) xs → List·Permᴰ xs ys
+    pub wrapped-total : (mode ≡ 0) ⊎ Says (oneBit k) → (xs ys : List Block) → AllAccepted (openedRun k signs mode c) xs
+        → List·Permᴰ xs ys
         → AllAccepted (openedRun k signs mode c) ys × Wraps (sumAt (fedAll (openedRun k signs mode c) ys) row column) (int32 from +ℤ total (adds xs))
     wrapped-total w xs ys a d =
         let b = order d a in
@@ -91,10 +94,12 @@ module _ (k signs mode : ℕ) (c : List ℕ) (accepted : openAnswer k signs mode
       clamping : limit k mode ≡ 1
       clamping = simp (not-one-bit k two) saturates
 
-      each-is : (xs : List Block) → AllAccepted (openedRun k signs mode c) xs → sumAt (fedAll (openedRun k signs mode c) xs) row column ≡ int32 (clampedBy from (adds xs))
+      each-is : (xs : List Block) → AllAccepted (openedRun k signs mode c) xs
+          → sumAt (fedAll (openedRun k signs mode c) xs) row column ≡ int32 (clampedBy from (adds xs))
       each-is xs a = sum-is xs a ∙ ap (λ (m : ℕ). int32 (fedCell m from (adds xs))) clamping ∙ ap int32 (clamps-each from (adds xs))
 
-      pub clamped-total : (xs ys : List Block) → AllAccepted (openedRun k signs mode c) xs → List·Permᴰ xs ys → (NoneNegative (adds xs)) ⊎ (NonePositive (adds xs))
+      pub clamped-total : (xs ys : List Block) → AllAccepted (openedRun k signs mode c) xs → List·Permᴰ xs ys
+          → (NoneNegative (adds xs)) ⊎ (NonePositive (adds xs))
           → AllAccepted (openedRun k signs mode c) ys × (sumAt (fedAll (openedRun k signs mode c) ys) row column ≡ clamp (int32 from +ℤ total (adds xs)))
       clamped-total xs ys a d (inl h) =
           let b = order d a in
@@ -104,11 +109,13 @@ module _ (k signs mode : ℕ) (c : List ℕ) (accepted : openAnswer k signs mode
           (b, each-is ys b ∙ fed-down from (adds xs) (adds ys) from-lt h (added-perm k signs mode ok row column d))
 
       -- 'Otherwise it is the total clamped after each block in the order fed.'
-      pub clamped-each : (xs : List Block) → AllAccepted (openedRun k signs mode c) xs → sumAt (fedAll (openedRun k signs mode c) xs) row column ≡ clampedEach (int32 from) (adds xs)
+      pub clamped-each : (xs : List Block) → AllAccepted (openedRun k signs mode c) xs
+          → sumAt (fedAll (openedRun k signs mode c) xs) row column ≡ clampedEach (int32 from) (adds xs)
       clamped-each xs a = each-is xs a ∙ fed-clamped from (adds xs) from-lt
 
   -- The number in the run is the number of accepted feeds since opening.
-  pub counted : (xs : List Block) → AllAccepted (openedRun k signs mode c) xs → fedAll (openedRun k signs mode c) xs .blocks ≡ length xs
+  pub counted : (xs : List Block) → AllAccepted (openedRun k signs mode c) xs
+      → fedAll (openedRun k signs mode c) xs .blocks ≡ length xs
   unfolding openedRun
   counted xs a = let s = fed-kept k signs mode ok 0 (withUsed c zeros) xs a in ap (λ (r : Run). r .blocks) (s .1) ∙ omega arith
 
@@ -125,7 +132,8 @@ module _ (k signs mode : ℕ) (c : List ℕ) (accepted : openAnswer k signs mode
       ap (λ (r : Run). feedAnswer r a b) (s .1) ∙ full-at (0 + length xs) (s .0) a b (omega arith)
 
 -- 'A refused feed isn't counted', and changes nothing: whatever was fed, the run is that of the accepted blocks alone,
-fed-kept-one : (run : Run) (x : Block) (q : Answer (Unit {0})) → feedAnswer run (length (x .a)) (length (x .b)) ≡ q → (ys : List Block) → fedAll (fedBy run x) ys ≡ fedAll run (kept q x ys)
+fed-kept-one : (run : Run) (x : Block) (q : Answer (Unit {0})) → feedAnswer run (length (x .a)) (length (x .b)) ≡ q
+    → (ys : List Block) → fedAll (fedBy run x) ys ≡ fedAll run (kept q x ys)
 unfolding fedAll
 fed-kept-one run x (given u) e ys = refl
 fed-kept-one run x (refusal n d) e ys = ap (λ (r : Run). fedAll r ys) (ap (λ (q : Answer (Unit {0})). after q (fedRun run (x .a) (x .b)) run) e)
@@ -136,7 +144,8 @@ fed-accepted run [] = refl
 fed-accepted run (x ∷ xs) = fed-accepted (fedBy run x) xs ∙ fed-kept-one run x (feedAnswer run (length (x .a)) (length (x .b))) refl (acceptedOf (fedBy run x) xs)
 
 -- each of which was accepted.
-all-kept : (run : Run) (x : Block) (q : Answer (Unit {0})) → feedAnswer run (length (x .a)) (length (x .b)) ≡ q → (ys : List Block) → AllAccepted (fedBy run x) ys → AllAccepted run (kept q x ys)
+all-kept : (run : Run) (x : Block) (q : Answer (Unit {0})) → feedAnswer run (length (x .a)) (length (x .b)) ≡ q
+    → (ys : List Block) → AllAccepted (fedBy run x) ys → AllAccepted run (kept q x ys)
 unfolding AllAccepted
 all-kept run x (given u) e ys a = (e, a)
 all-kept run x (refusal n d) e ys a = subst (λ (r : Run). AllAccepted r ys) (ap (λ (q : Answer (Unit {0})). after q (fedRun run (x .a) (x .b)) run) e) a
@@ -157,7 +166,8 @@ Alike k row (x ∷ xs) (y ∷ ys) =
     × ((kk column : ℕ) → kk < depth k → column < columnsD k → entryIn k 1 (x .b) kk column ≡ entryIn k 1 (y .b) kk column)
     × Alike k row xs ys
 
-same-adds : (k signs mode row column : ℕ) → column < columnsD k → (xs ys : List Block) → Alike k row xs ys → contributions k signs mode row column xs ≡ contributions k signs mode row column ys
+same-adds : (k signs mode row column : ℕ) → column < columnsD k → (xs ys : List Block) → Alike k row xs ys
+    → contributions k signs mode row column xs ≡ contributions k signs mode row column ys
 unfolding Alike contributions
 same-adds k signs mode row column hc [] [] h = refl
 same-adds k signs mode row column hc [] (y ∷ ys) h = absurd h
@@ -165,10 +175,14 @@ same-adds k signs mode row column hc (x ∷ xs) [] h = absurd h
 same-adds k signs mode row column hc (x ∷ xs) (y ∷ ys) h =
     ap₂ _∷_ (same-added k signs mode row (x .a) (y .a) (x .b) (y .b) [] [] (h .0) (h .1) (λ column l. refl) column hc) (same-adds k signs mode row column hc xs ys (h .2))
 
-pub own-row : (k signs mode : ℕ) (c c′ : List ℕ) → openAnswer k signs mode (length c) ≡ given tt → openAnswer k signs mode (length c′) ≡ given tt
-    → (row : ℕ) → row < rowsD k → ((column : ℕ) → column < columnsD k → entryIn k 2 c row column ≡ entryIn k 2 c′ row column)
-    → (xs ys : List Block) → AllAccepted (openedRun k signs mode c) xs → AllAccepted (openedRun k signs mode c′) ys → Alike k row xs ys
-    → (column : ℕ) → column < columnsD k → sumAt (fedAll (openedRun k signs mode c) xs) row column ≡ sumAt (fedAll (openedRun k signs mode c′) ys) row column
+pub own-row : (k signs mode : ℕ) (c c′ : List ℕ) → openAnswer k signs mode (length c) ≡ given tt
+    → openAnswer k signs mode (length c′) ≡ given tt
+    → (row : ℕ) → row < rowsD k
+    → ((column : ℕ) → column < columnsD k → entryIn k 2 c row column ≡ entryIn k 2 c′ row column)
+    → (xs ys : List Block) → AllAccepted (openedRun k signs mode c) xs → AllAccepted (openedRun k signs mode c′) ys
+    → Alike k row xs ys
+    → (column : ℕ) → column < columnsD k
+    → sumAt (fedAll (openedRun k signs mode c) xs) row column ≡ sumAt (fedAll (openedRun k signs mode c′) ys) row column
 own-row k signs mode c c′ o o′ row hr same xs ys a b h column hc =
     sum-is k signs mode c o row column hr hc xs a
     ∙ ap₂ (λ (w : ℕ) (zs : List ℤ). int32 (fedCell (limit k mode) w zs)) (same column hc) (same-adds k signs mode row column hc xs ys h)

@@ -66,7 +66,8 @@ impl Run {
 
     // A run whose sums are C's words.
     pub fn open(kind: Kind, signs: Signs, mode: Mode, c: &[u32]) -> Handed
-        ensures { λ r. ⌜ Meets (openCall (kind .0) (signs .0) (mode .0) (now (c .entry))) zeroRun (r .verdict) (r .run) ⌝ }
+        ensures { λ r. ⌜ Meets (openCall (kind .0) (signs .0) (mode .0) (now (c .entry))) zeroRun (r .verdict) (r .run)
+            ⌝ }
     {
         let verdict = Run::judge_open(kind, signs, mode, c.len());
         match verdict {
@@ -129,7 +130,8 @@ impl Run {
     // The run with one block more, where the block was judged.
     fn fed(self, a: &[u32], b: &[u32]) -> Run
         requires { ⌜ Ready (self .kind .0) (self .signs .0) (self .mode .0) × (self .blocks < maxBlocks) ⌝ }
-        requires { ⌜ (length (now a) ≡ wordsNeeded (self .kind .0) 0) × (length (now b) ≡ wordsNeeded (self .kind .0) 1) ⌝ }
+        requires { ⌜ (length (now a) ≡ wordsNeeded (self .kind .0) 0) × (length (now b) ≡ wordsNeeded (self .kind .0) 1)
+            ⌝ }
         ensures { λ r. ⌜ r ≡ fedRun self (now (a .entry)) (now (b .entry)) ⌝ }
     {
         let kind = self.kind;
@@ -182,7 +184,8 @@ impl Run {
 
     // The used sums, into D; the run is as it was.
     pub fn read(self, d: &mut [u32]) -> Handed
-        ensures { λ r. ⌜ Meets (readCall self (now (d .entry))) (now (d .entry), self) (r .verdict) (now (d .exit), r .run) ⌝ }
+        ensures { λ r. ⌜ Meets (readCall self (now (d .entry))) (now (d .entry), self) (r .verdict)
+            (now (d .exit), r .run) ⌝ }
     {
         let n = d.len();
         let verdict = self.judge_read(n);

@@ -32,7 +32,8 @@ chosen-only size side byteId threadId m n h =
     lt i l = subst (λ (n : ℕ). i < n) (length-tab lanes (λ l. l)) l
 
 -- 'Output: 16 times size numbers on side A, 8 times size on side B', for every thread-id that the side allows.
-pub output-length : (size side byteId threadId : ℕ) (m : List ℕ) → Says (legalThreadId side threadId) → length (scaled size side byteId threadId m) ≡ outputLength size side
+pub output-length : (size side byteId threadId : ℕ) (m : List ℕ) → Says (legalThreadId side threadId)
+    → length (scaled size side byteId threadId m) ≡ outputLength size side
 output-length = scaled-length
 
 -- Bench figures: metadata word 807F0100 (hexadecimal), size 1, byte-id 0 to 3: -127, -126, 0, 1. Size 2, byte-id 2: 0, 1. Size 2,

@@ -188,7 +188,8 @@ fn exponent_of(b: u8) -> i32
 // The bytes of one chosen lane, the low byte first.
 fn put_lane(word: u32, size: Size, byte_id: ByteId, out: &mut [i32], at: usize)
     requires { ⌜ («byte_id» .0 + size .0 ≤ 4) × (at ≤ 64) × (at + size .0 ≤ length (now out)) ⌝ }
-    ensures { λ _. ⌜ now (out .exit) ≡ fills at (size .0) (λ j. exponent (byteOf word («byte_id» .0 + j))) (now (out .entry)) ⌝ }
+    ensures { λ _. ⌜ now (out .exit) ≡ fills at (size .0) (λ j. exponent (byteOf word («byte_id» .0 + j)))
+        (now (out .entry)) ⌝ }
 {
     for j in 0..size.0 {
         let k = at + j as usize;
@@ -207,7 +208,8 @@ fn fill(
 )
     requires { ⌜ Legal (size .0) (side .0) («byte_id» .0) («thread_id» .0) (length (now metadata)) ⌝ }
     requires { ⌜ length (now out) ≡ outputLength (size .0) (side .0) ⌝ }
-    ensures { λ _. ⌜ now (out .exit) ≡ scaled (size .0) (side .0) («byte_id» .0) («thread_id» .0) (now (metadata .entry)) ⌝ }
+    ensures { λ _. ⌜ now (out .exit) ≡ scaled (size .0) (side .0) («byte_id» .0) («thread_id» .0)
+        (now (metadata .entry)) ⌝ }
 {
     for k in 0..output_length(Size(1), side) {
         let lane = lane_at(side, thread_id, k as u32).0 as usize;
@@ -225,7 +227,8 @@ pub fn scale(
     metadata: &[u32],
     out: &mut [i32],
 ) -> Verdict
-    ensures { λ r. ⌜ Meets (scaleCall (size .0) (side .0) («byte_id» .0) («thread_id» .0) (now (metadata .entry)) (now (out .entry))) (now (out .entry)) r (now (out .exit)) ⌝ }
+    ensures { λ r. ⌜ Meets (scaleCall (size .0) (side .0) («byte_id» .0) («thread_id» .0) (now (metadata .entry))
+        (now (out .entry))) (now (out .entry)) r (now (out .exit)) ⌝ }
 {
     let verdict = judge(size, side, byte_id, thread_id, metadata.len(), out.len());
     match verdict {

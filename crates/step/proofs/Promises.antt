@@ -30,7 +30,8 @@ abbrev pub columnsD : (kind : ℕ) → ℕ
 columnsD kind = columnsAt kind 2
 
 -- D's words, read as a matrix, have the result at every row and column.
-pub result-at : (k signs mode : ℕ) → Ready k signs mode → (a b c : List ℕ) (row column : ℕ) → row < rowsD k → column < columnsD k
+pub result-at : (k signs mode : ℕ) → Ready k signs mode → (a b c : List ℕ) (row column : ℕ) → row < rowsD k
+    → column < columnsD k
     → entryIn k 2 (stepped k signs mode a b c) row column ≡ resultAt k signs mode a b c row column
 result-at k signs mode ok a b c row column hr hc =
     let l = legal k (ok .of) 2 (omega arith) in
@@ -61,20 +62,24 @@ module _ (k signs mode row : ℕ) (a a′ b b′ c c′ : List ℕ)
     (same-a : (kk : ℕ) → kk < depth k → entryIn k 0 a row kk ≡ entryIn k 0 a′ row kk)
     (same-b : (kk column : ℕ) → kk < depth k → column < columnsD k → entryIn k 1 b kk column ≡ entryIn k 1 b′ kk column)
     (same-c : (column : ℕ) → column < columnsD k → entryIn k 2 c row column ≡ entryIn k 2 c′ row column) where
-  same-products : (column : ℕ) → column < columnsD k → products k signs a b row column ≡ products k signs a′ b′ row column
+  same-products : (column : ℕ) → column < columnsD k
+      → products k signs a b row column ≡ products k signs a′ b′ row column
   unfolding products
   same-products column h =
       sumZ-cong (depth k) _ _ (λ kk l. ap₂ (λ (x y : ℕ). value (unsignedA signs) (signWeight k) x *ℤ value (unsignedB signs) (signWeight k) y) (same-a kk l) (same-b kk column l h))
 
-  same-bits : (column : ℕ) → column < columnsD k → combinedBits k mode a b row column ≡ combinedBits k mode a′ b′ row column
+  same-bits : (column : ℕ) → column < columnsD k
+      → combinedBits k mode a b row column ≡ combinedBits k mode a′ b′ row column
   unfolding combinedBits
   same-bits column h = tab-ext (depth k) _ _ (λ kk l. ap₂ (combine mode) (same-a kk l) (same-b kk column l h))
 
-  pub same-added : (column : ℕ) → column < columnsD k → added k signs mode a b row column ≡ added k signs mode a′ b′ row column
+  pub same-added : (column : ℕ) → column < columnsD k
+      → added k signs mode a b row column ≡ added k signs mode a′ b′ row column
   unfolding added
   same-added column h = ap₂ (λ (bits : List ℕ) (z : ℤ). if holds (oneBit k) then pos (onesIn bits) else z) (same-bits column h) (same-products column h)
 
-  pub own-row : (na nb nc nd : ℕ) → stepAnswer k signs mode na nb nc nd ≡ given tt → row < rowsD k → (column : ℕ) → column < columnsD k
+  pub own-row : (na nb nc nd : ℕ) → stepAnswer k signs mode na nb nc nd ≡ given tt → row < rowsD k → (column : ℕ)
+      → column < columnsD k
       → entryIn k 2 (stepped k signs mode a b c) row column ≡ entryIn k 2 (stepped k signs mode a′ b′ c′) row column
   unfolding resultAt
   own-row na nb nc nd e hr column hc =

@@ -85,7 +85,8 @@ fn offset(unsigned: bool, bits: usize) -> u64
 fn multiply(kind: Kind, signs: Signs, mode: Mode, a: &[u32], b: &[u32], c: &[u32], d: &mut [u32])
     requires { ⌜ Ready (kind .0) (signs .0) (mode .0) × Says (integer (kind .0)) ⌝ }
     requires { ⌜ Sized (kind .0) (length (now a)) (length (now b)) (length (now c)) (length (now d)) ⌝ }
-    ensures { λ _. ⌜ now (d .exit) ≡ stepped (kind .0) (signs .0) (mode .0) (now (a .entry)) (now (b .entry)) (now (c .entry)) ⌝ }
+    ensures { λ _. ⌜ now (d .exit) ≡ stepped (kind .0) (signs .0) (mode .0) (now (a .entry)) (now (b .entry))
+        (now (c .entry)) ⌝ }
 {
     let l = Layouts::of(kind);
     let f = l.a;
@@ -116,7 +117,8 @@ fn count(kind: Kind, mode: Mode, a: &[u32], b: &[u32], c: &[u32], d: &mut [u32])
 pub fn work(kind: Kind, signs: Signs, mode: Mode, a: &[u32], b: &[u32], c: &[u32], d: &mut [u32])
     requires { ⌜ Ready (kind .0) (signs .0) (mode .0) ⌝ }
     requires { ⌜ Sized (kind .0) (length (now a)) (length (now b)) (length (now c)) (length (now d)) ⌝ }
-    ensures { λ _. ⌜ now (d .exit) ≡ stepped (kind .0) (signs .0) (mode .0) (now (a .entry)) (now (b .entry)) (now (c .entry)) ⌝ }
+    ensures { λ _. ⌜ now (d .exit) ≡ stepped (kind .0) (signs .0) (mode .0) (now (a .entry)) (now (b .entry))
+        (now (c .entry)) ⌝ }
 {
     if kind.element() == Entry::ONE_BIT {
         count(kind, mode, a, b, c, d);
@@ -157,7 +159,8 @@ fn step_in(
     d: &mut [u32],
 ) -> Verdict
     requires { ⌜ Ready (kind .0) (signs .0) (mode .0) ⌝ }
-    ensures { λ r. ⌜ Meets (stepCallIn (kind .0) (signs .0) (mode .0) (now (a .entry)) (now (b .entry)) (now (c .entry)) (now (d .entry))) (now (d .entry)) r (now (d .exit)) ⌝ }
+    ensures { λ r. ⌜ Meets (stepCallIn (kind .0) (signs .0) (mode .0) (now (a .entry)) (now (b .entry)) (now (c .entry))
+        (now (d .entry))) (now (d .entry)) r (now (d .exit)) ⌝ }
 {
     let verdict = lengths(kind, a.len(), b.len(), c.len(), d.len());
     match verdict {
@@ -179,7 +182,8 @@ pub fn step(
     c: &[u32],
     d: &mut [u32],
 ) -> Verdict
-    ensures { λ r. ⌜ Meets (stepCall (kind .0) (signs .0) (mode .0) (now (a .entry)) (now (b .entry)) (now (c .entry)) (now (d .entry))) (now (d .entry)) r (now (d .exit)) ⌝ }
+    ensures { λ r. ⌜ Meets (stepCall (kind .0) (signs .0) (mode .0) (now (a .entry)) (now (b .entry)) (now (c .entry))
+        (now (d .entry))) (now (d .entry)) r (now (d .exit)) ⌝ }
 {
     let verdict = judge(kind, signs, mode);
     match verdict {
@@ -190,7 +194,8 @@ pub fn step(
 
 // The plain step takes no selectors: signs 0, mode 0.
 pub fn plain_step(kind: Kind, a: &[u32], b: &[u32], c: &[u32], d: &mut [u32]) -> Verdict
-    ensures { λ r. ⌜ Meets (plainCall (kind .0) (now (a .entry)) (now (b .entry)) (now (c .entry)) (now (d .entry))) (now (d .entry)) r (now (d .exit)) ⌝ }
+    ensures { λ r. ⌜ Meets (plainCall (kind .0) (now (a .entry)) (now (b .entry)) (now (c .entry)) (now (d .entry)))
+        (now (d .entry)) r (now (d .exit)) ⌝ }
 {
     step(kind, Signs(0), Mode(0), a, b, c, d)
 }

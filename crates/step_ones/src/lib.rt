@@ -25,7 +25,8 @@ fn word_ones(mode: Mode, x: u32, y: u32) -> u32
 // The ones among the combined bits of a row and a column: a quad's four words of each.
 fn ones_at(mode: Mode, a: &[u32], b: &[u32], row: usize, column: usize) -> u32
     requires { ⌜ (mode .0 ≤ 1) × (row < 8) × (column < 8) × (length (now a) ≡ lanes) × (length (now b) ≡ lanes) ⌝ }
-    ensures { λ r. ⌜ (r ≡ onesIn (bitsOf (mode .0) 128 1 1 1 (now (a .entry)) (now (b .entry)) row column)) × (r ≤ 128) ⌝ }
+    ensures { λ r. ⌜ (r ≡ onesIn (bitsOf (mode .0) 128 1 1 1 (now (a .entry)) (now (b .entry)) row column)) × (r ≤ 128)
+        ⌝ }
 {
     let mut sum: u32 = 0;
     for t in 0..Lane::QUAD {
@@ -36,8 +37,10 @@ fn ones_at(mode: Mode, a: &[u32], b: &[u32], row: usize, column: usize) -> u32
 
 // Every word of D, which lie row by row, as C's do.
 pub fn cells(mode: Mode, a: &[u32], b: &[u32], c: &[u32], d: &mut [u32])
-    requires { ⌜ (mode .0 ≤ 1) × (length (now a) ≡ lanes) × (length (now b) ≡ lanes) × (length (now c) ≡ lanes * 2) × (length (now d) ≡ lanes * 2) ⌝ }
-    ensures { λ _. ⌜ now (d .exit) ≡ tab (lanes * 2) (blocks 2 (onesWord (mode .0) 128 1 1 1 2 (now (a .entry)) (now (b .entry)) (now (c .entry)))) ⌝ }
+    requires { ⌜ (mode .0 ≤ 1) × (length (now a) ≡ lanes) × (length (now b) ≡ lanes) × (length (now c) ≡ lanes * 2) ×
+        (length (now d) ≡ lanes * 2) ⌝ }
+    ensures { λ _. ⌜ now (d .exit) ≡ tab (lanes * 2) (blocks 2
+        (onesWord (mode .0) 128 1 1 1 2 (now (a .entry)) (now (b .entry)) (now (c .entry)))) ⌝ }
 {
     for k in 0..Lane::COUNT * 2 {
         let n = ones_at(mode, a, b, k / 8, k % 8);

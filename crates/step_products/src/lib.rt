@@ -71,7 +71,8 @@ fn dot_of(x: &[u8; 1024], y: &[u8; 1024], i: usize, j: usize, n: usize) -> Dot
 
 // The exact sum of n products, from the sums of their digits.
 fn exact(s: Dot, n: usize, h: Offsets) -> Split
-    requires { ⌜ (n ≤ 64) × (h .a ≤ 128) × (h .b ≤ 128) × (s .products ≤ 65025 * 64) × (s .a ≤ 255 * 64) × (s .b ≤ 255 * 64) ⌝ }
+    requires { ⌜ (n ≤ 64) × (h .a ≤ 128) × (h .b ≤ 128) × (s .products ≤ 65025 * 64) × (s .a ≤ 255 * 64) ×
+        (s .b ≤ 255 * 64) ⌝ }
     ensures is { λ r. ⌜ (r .plus ≡ s .products + n * (h .a * h .b)) × (r .minus ≡ h .a * s .b + h .b * s .a) ⌝ }
     ensures small { λ r. ⌜ (r .plus ≤ 8388608) × (r .minus ≤ 8388608) ⌝ }
 {
@@ -121,7 +122,8 @@ fn digits_lane(
     lane: Lane,
 )
     requires { ⌜ Digitised f (now words) (now out) × (stretch .0 < stretchesOf f) × (lane .0 < lanes) ⌝ }
-    ensures { λ _. ⌜ Brings (masked f mask (now (words .entry))) (OfLane f (f .side) (stretch .0) (lane .0)) (now (out .entry)) (now (out .exit)) ⌝ }
+    ensures { λ _. ⌜ Brings (masked f mask (now (words .entry))) (OfLane f (f .side) (stretch .0) (lane .0))
+        (now (out .entry)) (now (out .exit)) ⌝ }
 {
     let base = buffers::base_of(f, stretch, lane);
     let k = lane.0 as usize * f.words + stretch.0;
@@ -139,7 +141,8 @@ fn digits_quad(
     quad: Quad,
 )
     requires { ⌜ Digitised f (now words) (now out) × (stretch .0 < stretchesOf f) × (quad .0 < 8) ⌝ }
-    ensures { λ _. ⌜ Brings (masked f mask (now (words .entry))) (OfQuad f (f .side) (stretch .0) (quad .0)) (now (out .entry)) (now (out .exit)) ⌝ }
+    ensures { λ _. ⌜ Brings (masked f mask (now (words .entry))) (OfQuad f (f .side) (stretch .0) (quad .0))
+        (now (out .entry)) (now (out .exit)) ⌝ }
 {
     for t in 0..Lane::QUAD {
         digits_lane(words, out, f, mask, stretch, quad.lane(t));
@@ -148,7 +151,8 @@ fn digits_quad(
 
 fn digits_quads(words: &[u32], out: &mut [u8; 1024], f: Layout, mask: u32, stretch: Stretch)
     requires { ⌜ Digitised f (now words) (now out) × (stretch .0 < stretchesOf f) ⌝ }
-    ensures { λ _. ⌜ Brings (masked f mask (now (words .entry))) (Below 8 (OfQuad f (f .side) (stretch .0))) (now (out .entry)) (now (out .exit)) ⌝ }
+    ensures { λ _. ⌜ Brings (masked f mask (now (words .entry))) (Below 8 (OfQuad f (f .side) (stretch .0)))
+        (now (out .entry)) (now (out .exit)) ⌝ }
 {
     for quad in 0..Quad::COUNT {
         digits_quad(words, out, f, mask, stretch, Quad(quad));
@@ -181,7 +185,8 @@ fn lane_cells(
     lane: Lane,
 )
     requires { ⌜ Summable l (mode .0) h (now c) (now d) × (lane .0 < lanes) ⌝ }
-    ensures { λ _. ⌜ Brings (digitsWords l (mode .0) h (now (x .entry)) (now (y .entry)) (now (c .entry))) (Below (l .c .words) (λ i. At (lane .0 * l .c .words + i))) (now (d .entry)) (now (d .exit)) ⌝ }
+    ensures { λ _. ⌜ Brings (digitsWords l (mode .0) h (now (x .entry)) (now (y .entry)) (now (c .entry)))
+        (Below (l .c .words) (λ i. At (lane .0 * l .c .words + i))) (now (d .entry)) (now (d .exit)) ⌝ }
 {
     let f = l.a;
     let g = l.c;

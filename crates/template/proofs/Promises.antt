@@ -24,11 +24,13 @@ pub words-back : (ws : List ℕ) → length ws ≡ 64 → Fitting 32 ws → temp
 words-back = unpack-pack templateKind templateRole template-legal
 
 -- 'B of kind 3, row-major': the words that were read, unpacked as B of kind 3, give the record's bytes,
-pub record-is-matrix : (bytes : List ℕ) → length bytes ≡ 256 → Fitting 8 bytes → unpackedOf 3 1 (templateWords bytes) ≡ bytes
+pub record-is-matrix : (bytes : List ℕ) → length bytes ≡ 256 → Fitting 8 bytes
+    → unpackedOf 3 1 (templateWords bytes) ≡ bytes
 record-is-matrix = record-back
 
 -- 'row k column c at byte 8k + c': the element of the words read whose place is row k, column c is that byte,
-pub read-at : (bytes : List ℕ) → length bytes ≡ 256 → Fitting 8 bytes → (lane i k c : ℕ) → placeAnswer 3 1 lane i ≡ given (k, c)
+pub read-at : (bytes : List ℕ) → length bytes ≡ 256 → Fitting 8 bytes → (lane i k c : ℕ)
+    → placeAnswer 3 1 lane i ≡ given (k, c)
     → elementIn 3 1 (templateWords bytes) lane i ≡ getD bytes (8 * k + c) 0
 read-at bytes n fit lane i k c e =
     let p = placed 3 1 lane i (k, c) e in
@@ -36,5 +38,6 @@ read-at bytes n fit lane i k c e =
     ∙ ap (λ (z : ℕ). getD bytes z 0) (ap (index 8) (sym (p .2)) ∙ omega arith)
 
 -- and the byte of the record written is that element of the words.
-pub written-at : (ws : List ℕ) (lane i k c : ℕ) → placeAnswer 3 1 lane i ≡ given (k, c) → getD (templateRecord ws) (8 * k + c) 0 ≡ elementIn 3 1 ws lane i
+pub written-at : (ws : List ℕ) (lane i k c : ℕ) → placeAnswer 3 1 lane i ≡ given (k, c)
+    → getD (templateRecord ws) (8 * k + c) 0 ≡ elementIn 3 1 ws lane i
 written-at ws lane i k c e = ap (λ (z : ℕ). getD (templateRecord ws) z 0) (omega arith) ∙ unpacked-at 3 1 ws lane i (k, c) e

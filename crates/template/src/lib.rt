@@ -18,7 +18,8 @@ pub const WORDS: usize = 64;
 
 // A record to the lane words of its matrix.
 pub fn read(record: &[u8], words: &mut [u32]) -> Verdict
-    ensures { λ r. ⌜ Meets (readCall (now («record» .entry)) (now (words .entry))) (now (words .entry)) r (now (words .exit)) ⌝ }
+    ensures { λ r. ⌜ Meets (readCall (now («record» .entry)) (now (words .entry))) (now (words .entry)) r
+        (now (words .exit)) ⌝ }
 {
     if record.len() != BYTES {
         return Verdict::Refused(Refusal::WrongLength(0));
@@ -35,7 +36,8 @@ pub fn read(record: &[u8], words: &mut [u32]) -> Verdict
 
 // Lane words to the record of their matrix.
 pub fn write(words: &[u32], record: &mut [u8]) -> Verdict
-    ensures { λ r. ⌜ Meets (writeCall (now (words .entry)) (now («record» .entry))) (now («record» .entry)) r (now («record» .exit)) ⌝ }
+    ensures { λ r. ⌜ Meets (writeCall (now (words .entry)) (now («record» .entry))) (now («record» .entry)) r
+        (now («record» .exit)) ⌝ }
 {
     if words.len() != WORDS {
         return Verdict::Refused(Refusal::WrongLength(0));

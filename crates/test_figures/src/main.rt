@@ -90,7 +90,8 @@ fn find(kind: Kind, role: Role, row: Row, column: Column) {
 
 // The index of the first word that is not w, or the length where all are.
 fn first_other(words: &[u32], w: u32) -> usize
-    ensures { λ r. ⌜ (r ≤ length (now (words .entry))) × ((i : ℕ) → i < r → getD (now (words .entry)) i 0 ≡ w) × (r < length (now (words .entry)) → getD (now (words .entry)) r 0 ≡ w → ⊥) ⌝ }
+    ensures { λ r. ⌜ (r ≤ length (now (words .entry))) × ((i : ℕ) → i < r → getD (now (words .entry)) i 0 ≡ w) ×
+        (r < length (now (words .entry)) → getD (now (words .entry)) r 0 ≡ w → ⊥) ⌝ }
 {
     let mut i = 0;
     while i < words.len() {

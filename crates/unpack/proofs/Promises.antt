@@ -14,7 +14,8 @@ use Rattle.buffers.proofs.Placed.{indexIn, legal, placed, laid, index-is, eleme
 use Rattle.buffers.proofs.Round as round
 
 -- 'the entry at the place of (lane, element) is that element's field of the lane's words, for every lane and element'
-pub unpacked-at : (k r : ℕ) (ws : List ℕ) (lane i : ℕ) (x : ℕ × ℕ) → placeAnswer k r lane i ≡ given x → getD (unpackedOf k r ws) (indexIn k r x) 0 ≡ elementIn k r ws lane i
+pub unpacked-at : (k r : ℕ) (ws : List ℕ) (lane i : ℕ) (x : ℕ × ℕ) → placeAnswer k r lane i ≡ given x
+    → getD (unpackedOf k r ws) (indexIn k r x) 0 ≡ elementIn k r ws lane i
 unpacked-at k r ws lane i x e =
     let ok = legal k r lane i x e in
     let p = placed k r lane i x e in
@@ -30,7 +31,8 @@ unpacked-only k r ok ws m n at = round.unpacked-only (layoutAt k r) (laid k r ok
 -- 'No boat reaches another boat's row': the entries of a row depend only on the elements whose places lie in that row.
 pub own-row : (k r : ℕ) → Legal k r → (ws ws′ : List ℕ) (row : ℕ) → row < rowsAt k r
     → ((lane i column : ℕ) → placeAnswer k r lane i ≡ given (row, column) → elementIn k r ws lane i ≡ elementIn k r ws′ lane i)
-    → (column : ℕ) → column < columnsAt k r → getD (unpackedOf k r ws) (indexIn k r (row, column)) 0 ≡ getD (unpackedOf k r ws′) (indexIn k r (row, column)) 0
+    → (column : ℕ) → column < columnsAt k r
+    → getD (unpackedOf k r ws) (indexIn k r (row, column)) 0 ≡ getD (unpackedOf k r ws′) (indexIn k r (row, column)) 0
 own-row k r ok ws ws′ row hr same column hc =
     let f = layoutAt k r in
     let o = sane k r ok in

@@ -44,7 +44,8 @@ fn scatter(matrix: &mut [u64], word: u64, bits: usize, side: usize, base: usize,
 
 // The one element of a stretch, where it takes a word, or two.
 fn element(words: &[u32], f: Layout, stretch: Stretch, lane: Lane) -> u64
-    requires { ⌜ Laid f × (length (now words) ≡ lanes * f .words) × (32 ≤ f .bits) × (stretch .0 < stretchesOf f) × (lane .0 < lanes) ⌝ }
+    requires { ⌜ Laid f × (length (now words) ≡ lanes * f .words) × (32 ≤ f .bits) × (stretch .0 < stretchesOf f) ×
+        (lane .0 < lanes) ⌝ }
     ensures { λ r. ⌜ r ≡ elementAt (f .bits) (f .words) (now (words .entry)) (lane .0) (stretch .0) ⌝ }
 {
     let at = lane.0 as usize * f.words;
@@ -60,7 +61,8 @@ fn element(words: &[u32], f: Layout, stretch: Stretch, lane: Lane) -> u64
 // One stretch of a lane: the fields of a word, or one element.
 fn fill_lane(words: &[u32], matrix: &mut [u64], f: Layout, stretch: Stretch, lane: Lane)
     requires { ⌜ Unpacks f (now words) (now matrix) × (stretch .0 < stretchesOf f) × (lane .0 < lanes) ⌝ }
-    ensures { λ _. ⌜ Brings (unpacked f (now (words .entry))) (OfLane f (sizeOf f) (stretch .0) (lane .0)) (now (matrix .entry)) (now (matrix .exit)) ⌝ }
+    ensures { λ _. ⌜ Brings (unpacked f (now (words .entry))) (OfLane f (sizeOf f) (stretch .0) (lane .0))
+        (now (matrix .entry)) (now (matrix .exit)) ⌝ }
 {
     let base = buffers::base_of(f, stretch, lane);
     if f.bits < 32 {
@@ -74,7 +76,8 @@ fn fill_lane(words: &[u32], matrix: &mut [u64], f: Layout, stretch: Stretch, lan
 // The same stretch of a quad's lanes, and of every quad's.
 fn fill_quad(words: &[u32], matrix: &mut [u64], f: Layout, stretch: Stretch, quad: Quad)
     requires { ⌜ Unpacks f (now words) (now matrix) × (stretch .0 < stretchesOf f) × (quad .0 < 8) ⌝ }
-    ensures { λ _. ⌜ Brings (unpacked f (now (words .entry))) (OfQuad f (sizeOf f) (stretch .0) (quad .0)) (now (matrix .entry)) (now (matrix .exit)) ⌝ }
+    ensures { λ _. ⌜ Brings (unpacked f (now (words .entry))) (OfQuad f (sizeOf f) (stretch .0) (quad .0))
+        (now (matrix .entry)) (now (matrix .exit)) ⌝ }
 {
     for t in 0..Lane::QUAD {
         fill_lane(words, matrix, f, stretch, quad.lane(t));
@@ -83,7 +86,8 @@ fn fill_quad(words: &[u32], matrix: &mut [u64], f: Layout, stretch: Stretch, qua
 
 fn fill_quads(words: &[u32], matrix: &mut [u64], f: Layout, stretch: Stretch)
     requires { ⌜ Unpacks f (now words) (now matrix) × (stretch .0 < stretchesOf f) ⌝ }
-    ensures { λ _. ⌜ Brings (unpacked f (now (words .entry))) (Below 8 (OfQuad f (sizeOf f) (stretch .0))) (now (matrix .entry)) (now (matrix .exit)) ⌝ }
+    ensures { λ _. ⌜ Brings (unpacked f (now (words .entry))) (Below 8 (OfQuad f (sizeOf f) (stretch .0)))
+        (now (matrix .entry)) (now (matrix .exit)) ⌝ }
 {
     for quad in 0..Quad::COUNT {
         fill_quad(words, matrix, f, stretch, Quad(quad));
@@ -101,7 +105,8 @@ pub fn fill(words: &[u32], matrix: &mut [u64], f: Layout)
 
 fn unpack_in(f: Layout, words: &[u32], matrix: &mut [u64]) -> Verdict
     requires { ⌜ Laid f ⌝ }
-    ensures { λ r. ⌜ Meets (unpackCallIn f (now (words .entry)) (now (matrix .entry))) (now (matrix .entry)) r (now (matrix .exit)) ⌝ }
+    ensures { λ r. ⌜ Meets (unpackCallIn f (now (words .entry)) (now (matrix .entry))) (now (matrix .entry)) r
+        (now (matrix .exit)) ⌝ }
 {
     let each = f.words;
     let rows = buffers::rows_in(f);
@@ -118,7 +123,8 @@ fn unpack_in(f: Layout, words: &[u32], matrix: &mut [u64]) -> Verdict
 
 // Lane words to the row-major matrix of bit patterns.
 pub fn unpack(kind: Kind, role: Role, words: &[u32], matrix: &mut [u64]) -> Verdict
-    ensures { λ r. ⌜ Meets (unpackCall (kind .0) (role .0) (now (words .entry)) (now (matrix .entry))) (now (matrix .entry)) r (now (matrix .exit)) ⌝ }
+    ensures { λ r. ⌜ Meets (unpackCall (kind .0) (role .0) (now (words .entry)) (now (matrix .entry)))
+        (now (matrix .entry)) r (now (matrix .exit)) ⌝ }
 {
     match kinds::layout_of(kind, role) {
         Known::As(f) => unpack_in(f, words, matrix),

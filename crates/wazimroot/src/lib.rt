@@ -87,7 +87,8 @@ pub extern "C" fn wz_find(kind: u32, role: u32, row: u32, column: u32, out: &mut
 // Lane words to a matrix.
 #[no_mangle]
 pub extern "C" fn wz_unpack(kind: u32, role: u32, words: &[u32], matrix: &mut [u64]) -> u64
-    ensures { λ r. ⌜ Coded (unpackCall kind role (now (words .entry)) (now (matrix .entry))) (now (matrix .entry)) r (now (matrix .exit)) ⌝ }
+    ensures { λ r. ⌜ Coded (unpackCall kind role (now (words .entry)) (now (matrix .entry))) (now (matrix .entry)) r
+        (now (matrix .exit)) ⌝ }
 {
     code_of(unpack::unpack(Kind(kind), Role(role), words, matrix))
 }
@@ -95,7 +96,8 @@ pub extern "C" fn wz_unpack(kind: u32, role: u32, words: &[u32], matrix: &mut [u
 // A matrix to lane words.
 #[no_mangle]
 pub extern "C" fn wz_pack(kind: u32, role: u32, matrix: &[u64], words: &mut [u32]) -> u64
-    ensures { λ r. ⌜ Coded (packCall kind role (now (matrix .entry)) (now (words .entry))) (now (words .entry)) r (now (words .exit)) ⌝ }
+    ensures { λ r. ⌜ Coded (packCall kind role (now (matrix .entry)) (now (words .entry))) (now (words .entry)) r
+        (now (words .exit)) ⌝ }
 {
     code_of(pack::pack(Kind(kind), Role(role), matrix, words))
 }
@@ -111,7 +113,8 @@ pub extern "C" fn wz_step(
     c: &[u32],
     d: &mut [u32],
 ) -> u64
-    ensures { λ r. ⌜ Coded (stepCall kind signs mode (now (a .entry)) (now (b .entry)) (now (c .entry)) (now (d .entry))) (now (d .entry)) r (now (d .exit)) ⌝ }
+    ensures { λ r. ⌜ Coded (stepCall kind signs mode (now (a .entry)) (now (b .entry)) (now (c .entry))
+        (now (d .entry))) (now (d .entry)) r (now (d .exit)) ⌝ }
 {
     code_of(step::step(Kind(kind), Signs(signs), Mode(mode), a, b, c, d))
 }
@@ -119,7 +122,8 @@ pub extern "C" fn wz_step(
 // One step with no selectors.
 #[no_mangle]
 pub extern "C" fn wz_plain_step(kind: u32, a: &[u32], b: &[u32], c: &[u32], d: &mut [u32]) -> u64
-    ensures { λ r. ⌜ Coded (plainCall kind (now (a .entry)) (now (b .entry)) (now (c .entry)) (now (d .entry))) (now (d .entry)) r (now (d .exit)) ⌝ }
+    ensures { λ r. ⌜ Coded (plainCall kind (now (a .entry)) (now (b .entry)) (now (c .entry)) (now (d .entry)))
+        (now (d .entry)) r (now (d .exit)) ⌝ }
 {
     code_of(step::plain_step(Kind(kind), a, b, c, d))
 }
@@ -143,7 +147,8 @@ fn taken(words: &[u32]) -> Run
 // A run's first four words.
 fn put_head(run: Run, words: &mut [u32])
     requires { ⌜ length (now words) ≡ 132 ⌝ }
-    ensures { λ _. ⌜ now (words .exit) ≡ run .kind .0 ∷ run .signs .0 ∷ run .mode .0 ∷ run .blocks ∷ drop 4 (now (words .entry)) ⌝ }
+    ensures { λ _. ⌜ now (words .exit) ≡ run .kind .0 ∷ run .signs .0 ∷ run .mode .0 ∷ run .blocks ∷ drop 4
+        (now (words .entry)) ⌝ }
 {
     words[0] = run.kind.0;
     words[1] = run.signs.0;
@@ -182,7 +187,8 @@ pub extern "C" fn wz_open(
 // The run with one block more.
 #[no_mangle]
 pub extern "C" fn wz_feed(words: &mut [u32; 132], a: &[u32], b: &[u32]) -> u64
-    ensures { λ r. ⌜ Coded (feedInWords (now (words .entry)) (now (a .entry)) (now (b .entry))) (now (words .entry)) r (now (words .exit)) ⌝ }
+    ensures { λ r. ⌜ Coded (feedInWords (now (words .entry)) (now (a .entry)) (now (b .entry))) (now (words .entry)) r
+        (now (words .exit)) ⌝ }
 {
     let fed = taken(words).feed(a, b);
     let run = fed.run;
@@ -215,7 +221,8 @@ pub extern "C" fn wz_scale(
     metadata: &[u32],
     out: &mut [i32],
 ) -> u64
-    ensures { λ r. ⌜ Coded (scaleCall size side «byte_id» «thread_id» (now (metadata .entry)) (now (out .entry))) (now (out .entry)) r (now (out .exit)) ⌝ }
+    ensures { λ r. ⌜ Coded (scaleCall size side «byte_id» «thread_id» (now (metadata .entry)) (now (out .entry)))
+        (now (out .entry)) r (now (out .exit)) ⌝ }
 {
     code_of(scale::scale(
         Size(size),
@@ -230,7 +237,8 @@ pub extern "C" fn wz_scale(
 // A template record to its lane words.
 #[no_mangle]
 pub extern "C" fn wz_template_read(record: &[u8], words: &mut [u32]) -> u64
-    ensures { λ r. ⌜ Coded (readCall (now («record» .entry)) (now (words .entry))) (now (words .entry)) r (now (words .exit)) ⌝ }
+    ensures { λ r. ⌜ Coded (readCall (now («record» .entry)) (now (words .entry))) (now (words .entry)) r
+        (now (words .exit)) ⌝ }
 {
     code_of(template::read(record, words))
 }
@@ -238,7 +246,8 @@ pub extern "C" fn wz_template_read(record: &[u8], words: &mut [u32]) -> u64
 // Lane words to their template record.
 #[no_mangle]
 pub extern "C" fn wz_template_write(words: &[u32], record: &mut [u8]) -> u64
-    ensures { λ r. ⌜ Coded (writeCall (now (words .entry)) (now («record» .entry))) (now («record» .entry)) r (now («record» .exit)) ⌝ }
+    ensures { λ r. ⌜ Coded (writeCall (now (words .entry)) (now («record» .entry))) (now («record» .entry)) r
+        (now («record» .exit)) ⌝ }
 {
     code_of(template::write(words, record))
 }

@@ -6,7 +6,7 @@ use mathlib.Core.List.{List}
 use Prim.Native.Nat.{ℕ, _-_, _≤_}
 use native.Mathlib.Omega.{arith}
 use lib.ListN.{length}
-use Rattle.lookup_text.proofs.Laws.{counts}
+use Rattle.text.proofs.Laws.{counts}
 use Rattle.lookup.proofs.read_rest.Statement.{statement}
 use Rattle.lookup.proofs.read_rest.Tie as tie
 

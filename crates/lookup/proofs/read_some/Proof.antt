@@ -2,7 +2,7 @@
 use borrow.Author.Needs.{needs}
 use native.Mathlib.Omega.{arith}
 use lib.ListN.{length-append, length-take}
-use Rattle.lookup_text.proofs.Laws.{counts}
+use Rattle.text.proofs.Laws.{counts}
 use Rattle.lookup.proofs.read_some.Statement.{statement}
 use Rattle.lookup.proofs.read_some.Tie as tie
 

@@ -1,7 +1,7 @@
 -- Fewer bytes than came are counted too. Assumes nothing.
 use borrow.Author.Needs.{needs}
 use native.Mathlib.Omega.{arith}
-use Rattle.lookup_text.proofs.Laws.{counts}
+use Rattle.text.proofs.Laws.{counts}
 use Rattle.lookup.proofs.told.Statement.{statement}
 use Rattle.lookup.proofs.told.Tie as tie
 

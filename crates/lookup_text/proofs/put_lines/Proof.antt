@@ -6,8 +6,10 @@ use native.Mathlib.Omega.{arith}
 use lib.ListN.{take}
 use lib.Seq.{take-all}
 use denote.Ref.{now}
-use Rattle.lookup_text.specs.Text.{printed, Put}
-use Rattle.lookup_text.proofs.Laws.{put-none, put-put, put-record, counts, printed-rest}
+use Rattle.lookup_text.specs.Text.{printed}
+use Rattle.text.specs.Text.{Put}
+use Rattle.text.proofs.Laws.{put-none, put-put, counts}
+use Rattle.lookup_text.proofs.Laws.{put-record, printed-rest}
 use Rattle.lookup_text.proofs.put_lines.Statement.{statement}
 use Rattle.lookup_text.proofs.put_lines.Tie as tie
 
@@ -59,8 +61,8 @@ loop-again c =
     let p = c .before .before in
     let l = p .before .before .before .before .before .before .before in
     let xs = now (l .before .before .before .args .records) in
-    let next = put-record xs (l .loop .i) (search needs) (l .loop .inv .1) (l .loop .inv .2) (p .put-line .ensures) in
-    (search needs, next .0, next .1)
+    let next = put-record xs (l .loop .i) (search needs) (l .loop .inv .2) (p .put-line .ensures .0) in
+    (search needs, search needs, next)
 
 mul-if1 : tie.Need-mul-if1 Inv-loop μ-loop
 mul-if1 c = search needs

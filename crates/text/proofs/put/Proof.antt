@@ -1,8 +1,8 @@
 -- One byte is stored. Assumes nothing.
 use borrow.Author.Needs.{needs}
-use Rattle.lookup_text.proofs.Laws.{put-one}
-use Rattle.lookup_text.proofs.put.Statement.{statement}
-use Rattle.lookup_text.proofs.put.Tie as tie
+use Rattle.text.proofs.Laws.{put-one}
+use Rattle.text.proofs.put.Statement.{statement}
+use Rattle.text.proofs.put.Tie as tie
 
 slice-write-out : tie.Need-slice-write-out
 slice-write-out c = search needs

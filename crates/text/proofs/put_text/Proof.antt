@@ -7,10 +7,10 @@ use native.Mathlib.Numerals.{add-one}
 use native.Mathlib.Omega.{arith}
 use lib.ListN.{length, take}
 use lib.Seq.{take-suc, take-all}
-use Rattle.lookup_text.specs.Text.{Put}
-use Rattle.lookup_text.proofs.Laws.{put-none, put-one, put-put}
-use Rattle.lookup_text.proofs.put_text.Statement.{statement}
-use Rattle.lookup_text.proofs.put_text.Tie as tie
+use Rattle.text.specs.Text.{Put}
+use Rattle.text.proofs.Laws.{put-none, put-one, put-put}
+use Rattle.text.proofs.put_text.Statement.{statement}
+use Rattle.text.proofs.put_text.Tie as tie
 
 abbrev Inv-loop : tie.InvT-loop
 Inv-loop out₀ at text i₀ out i = (i ≤ length text) × Put (take i text) out₀ at out (at + i)
