@@ -11,7 +11,7 @@ use Rattle.kinds.specs.Rule.{laneOf, elementOf}
 use Rattle.places.specs.PlaceCalls.{placeAnswer, findAnswer}
 use Rattle.step_limit.specs.Limits.{cellOf}
 use Rattle.step.specs.StepCalls.{stepAnswer}
-use Rattle.figures.specs.Figures.{Figure, place, find, step, Right, All, starred}
+use Rattle.figures.specs.Figures.{Figure, place, find, step, Right, AllRight, starred}
 use Rattle.figures.proofs.Uniform.{addedAll, Computed, steps}
 
 -- what antt computes of a figure
@@ -29,7 +29,7 @@ right (place k r l i x y) t = t
 right (find k r x y l i) t = t
 right (step k signs mode a b c z) t = steps k signs mode a b c z t
 
-all-right : (fs : List Figure) → Tests fs → All fs
+all-right : (fs : List Figure) → Tests fs → AllRight fs
 all-right [] t = tt
 all-right (f ∷ fs) t = (right f (t .0), all-right fs (t .1))
 
@@ -57,5 +57,5 @@ tests =
     and (refl, tt, tt, tt, refl)
     and tt
 
-pub bench : All starred
+pub bench : AllRight starred
 bench = all-right starred tests

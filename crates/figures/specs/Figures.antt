@@ -41,9 +41,9 @@ Right (place kind role lane i row column) = placeAnswer kind role lane i ≡ giv
 Right (find kind role row column lane i) = findAnswer kind role row column ≡ given (lane, i)
 Right (step kind signs mode a b c z) = Steps kind signs mode (uniform kind 0 a) (uniform kind 1 b) (uniform kind 2 c) z
 
-abbrev pub All : List Figure → Type 0
-All [] = Unit {0}
-All (f ∷ fs) = Right f × All fs
+abbrev pub AllRight : List Figure → Type 0
+AllRight [] = Unit {0}
+AllRight (f ∷ fs) = Right f × AllRight fs
 
 -- The number -n - 1 is negsuc n, and the word 0x8080_8080 holds -128 four times.
 abbrev pub starred : List Figure

@@ -16,7 +16,7 @@ use Rattle.kinds.proofs.Table.{not-one-bit, layoutAt, sane}
 use Rattle.step.specs.Step.{entryIn, depth, signWeight, unsignedA, unsignedB, products, added, resultAt, stepped}
 use Rattle.step_limit.specs.Limits.{cellOf}
 use Rattle.step.specs.Workers.{Ready}
-use Rattle.step_products.specs.Sums.{offsetOf, digit, digitAt, offsetDot, digitsWord, digitsWords, Digits, Summable}
+use Rattle.step_products.specs.Sums.{offsetOf, raised, digitAt, offsetDot, digitsWord, digitsWords, Digits, Summable}
 use Rattle.step_products.specs.declared.Offsets.{Offsets}
 use Rattle.step_products.proofs.OffsetDots.{element-lt, dot-digits, offset-ext}
 use Rattle.step_products.proofs.Signs.{doubled}
@@ -56,21 +56,21 @@ module _ (k signs mode : ℕ) (ok : Ready k signs mode) (two : Says (integer k))
 
   module _ (dx : Digits (layoutAt k 0) oa a xs) (dy : Digits (layoutAt k 1) ob b ys) where
     -- the digits are those of the entries, which are patterns
-    digit-A : (row kk : ℕ) → row < h * 8 → kk < n → getD xs (row * m + kk) 0 ≡ digit (2 * signWeight k) oa (entryIn k 0 a row kk)
+    digit-A : (row kk : ℕ) → row < h * 8 → kk < n → getD xs (row * m + kk) 0 ≡ raised (2 * signWeight k) oa (entryIn k 0 a row kk)
     unfolding digitAt
-    digit-A row kk hr hk = dx row kk hr (deep kk hk) ∙ ap₂ (λ (s v : ℕ). digit s oa v) (sym size-is) (sym (entry-A k (ok .of) a row kk hr hk))
+    digit-A row kk hr hk = dx row kk hr (deep kk hk) ∙ ap₂ (λ (s v : ℕ). raised s oa v) (sym size-is) (sym (entry-A k (ok .of) a row kk hr hk))
 
-    digit-B : (column kk : ℕ) → column < 8 → kk < n → getD ys (column * m + kk) 0 ≡ digit (2 * signWeight k) ob (entryIn k 1 b kk column)
+    digit-B : (column kk : ℕ) → column < 8 → kk < n → getD ys (column * m + kk) 0 ≡ raised (2 * signWeight k) ob (entryIn k 1 b kk column)
     unfolding digitAt
     digit-B column kk hc hk =
         dy column kk (omega (arith, columns-half k (ok .of))) (deep kk hk)
-        ∙ ap₂ (λ (s v : ℕ). digit s ob v) (sym size-is) (sym (entry-B k (ok .of) b kk column hk hc))
+        ∙ ap₂ (λ (s v : ℕ). raised s ob v) (sym size-is) (sym (entry-B k (ok .of) b kk column hk hc))
 
     sum-is : (row column : ℕ) → row < h * 8 → column < 8 → offsetDot oa ob m (λ kk. getD xs (row * m + kk) 0) (λ kk. getD ys (column * m + kk) 0) ≡ products k signs a b row column
     unfolding products
     sum-is row column hr hc =
         ap (λ (z : ℕ). offsetDot oa ob z (λ kk. getD xs (row * m + kk) 0) (λ kk. getD ys (column * m + kk) 0)) (sym (depth-is k (ok .of)))
-        ∙ offset-ext oa ob n (λ kk. getD xs (row * m + kk) 0) (λ kk. getD ys (column * m + kk) 0) (λ kk. digit (2 * signWeight k) oa (entryIn k 0 a row kk)) (λ kk. digit (2 * signWeight k) ob (entryIn k 1 b kk column))
+        ∙ offset-ext oa ob n (λ kk. getD xs (row * m + kk) 0) (λ kk. getD ys (column * m + kk) 0) (λ kk. raised (2 * signWeight k) oa (entryIn k 0 a row kk)) (λ kk. raised (2 * signWeight k) ob (entryIn k 1 b kk column))
         (λ kk l. (digit-A row kk hr l, digit-B column kk hc l))
         ∙ sym (dot-digits (signWeight k) (unsignedA signs) (unsignedB signs) n (λ kk. entryIn k 0 a row kk) (λ kk. entryIn k 1 b kk column) (λ kk l. (pattern-A row kk hr l, pattern-B column kk hc l)))
 

@@ -15,7 +15,7 @@ use Rattle.laws.proofs.Differences.{is-pos, sub-add, sub-mul, sub-eq}
 use Rattle.laws.proofs.Fields.{field-lt}
 use Rattle.laws.proofs.Integers.{sumZ-cong}
 use Rattle.buffers.specs.Buffers.{laneNumber, elementAt}
-use Rattle.step_products.specs.Sums.{offsetOf, digit, offsetDot}
+use Rattle.step_products.specs.Sums.{offsetOf, raised, offsetDot}
 
 -- a product of small numbers is small
 pub product-le : (u v m n : ℕ) → u ≤ m → v ≤ n → u * v ≤ m * n
@@ -53,7 +53,7 @@ signed-by false half x l f g =
     let e : (x + half) % (2 * half) ≡ x - half = ap (λ (z : ℕ). z % (2 * half)) p ∙ add-mod-right (x - half) (2 * half) ∙ mod-eq-of-lt (omega arith) in
     sub-eq x (2 * half) ((x + half) % (2 * half)) half (omega arith)
 
-pub value-digit : (unsigned : Bool) (half x : ℕ) → x < 2 * half → value unsigned half x ≡ subℕ (digit (2 * half) (offsetOf unsigned half) x) (offsetOf unsigned half)
+pub value-digit : (unsigned : Bool) (half x : ℕ) → x < 2 * half → value unsigned half x ≡ subℕ (raised (2 * half) (offsetOf unsigned half) x) (offsetOf unsigned half)
 unfolding value
 value-digit true half x l =
     let e : (x + 0) % (2 * half) ≡ x + 0 = mod-eq-of-lt (omega arith) in
@@ -62,7 +62,7 @@ value-digit false half x l = signed-by (ltb x half) half x l (ltb→lt x half) (
 
 pub dot-digits : (half : ℕ) (ua ub : Bool) (n : ℕ) (a b : ℕ → ℕ) → ((k : ℕ) → k < n → (a k < 2 * half) × (b k < 2 * half))
     → sumZ n (λ k. value ua half (a k) *ℤ value ub half (b k))
-    ≡ offsetDot (offsetOf ua half) (offsetOf ub half) n (λ k. digit (2 * half) (offsetOf ua half) (a k)) (λ k. digit (2 * half) (offsetOf ub half) (b k))
+    ≡ offsetDot (offsetOf ua half) (offsetOf ub half) n (λ k. raised (2 * half) (offsetOf ua half) (a k)) (λ k. raised (2 * half) (offsetOf ub half) (b k))
 unfolding offsetDot
 dot-digits half ua ub n a b h = sumZ-cong n _ _ (λ k l. ap₂ _*ℤ_ (value-digit ua half (a k) (h k l .0)) (value-digit ub half (b k) (h k l .1)))
 

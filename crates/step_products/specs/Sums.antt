@@ -26,9 +26,9 @@ abbrev pub offsetOf : (unsigned : Bool) → (half : ℕ) → ℕ
 offsetOf true half = 0
 offsetOf false half = half
 
--- the digit of a pattern
-abbrev pub digit : (size offset x : ℕ) → ℕ
-digit size offset x = (x + offset) % size
+-- the digit of a pattern: raised by the offset
+abbrev pub raised : (size offset x : ℕ) → ℕ
+raised size offset x = (x + offset) % size
 
 -- an element of a warp buffer, with the bits turned over that its field of a mask has
 abbrev pub xorIn : Layout → (mask : ℕ) → List ℕ → (lane i : ℕ) → ℕ
@@ -40,7 +40,7 @@ masked f mask ws = tab (majors f * minors f) (blocks (minors f) (λ x y. xorIn f
 
 -- the digit at a major and a minor number of a warp buffer
 unfoldable pub digitAt : (bits each side halves offset : ℕ) → List ℕ → (x y : ℕ) → ℕ
-digitAt bits each side halves offset ws x y = digit (2 ^ bits) offset (elementAt bits each ws (laneOf side x y) (elementOf side halves x y))
+digitAt bits each side halves offset ws x y = raised (2 ^ bits) offset (elementAt bits each ws (laneOf side x y) (elementOf side halves x y))
 
 -- the sum over k of (a k - ha) times (b k - hb)
 unfoldable pub offsetDot : (ha hb n : ℕ) → (a b : ℕ → ℕ) → ℤ
