@@ -30,15 +30,12 @@ of-requires c κs =
     search needs
 
 returns-2 : tie.Need-returns-2
-returns-2 c =
-    let j = c .before .before .before in
-    continues (j .before .before .judge .ensures) (j .enum-told .given .1) (search needs)
+returns-2 c = continues (c .before .before .before .before .before .judge .ensures) (c .before .before .before .enum-told .given .1) (search needs)
 
 returns-3 : tie.Need-returns-3
 returns-3 c =
-    let j = c .before .before .before in
-    let e = j .enum-told .given .1 in
-    continues (j .before .before .judge .ensures) e (skips (λ n. omega (arith, n, c .if1 .left, c .before .before .of .ensures)) (accepts e))
+    let e = c .before .before .before .enum-told .given .1 in
+    continues (c .before .before .before .before .before .judge .ensures) e (skips (λ n. omega (arith, n, c .if1 .left, c .before .before .of .ensures)) (accepts e))
 
 pub judge-read-spec : {M : Type 1} → statement M
 judge-read-spec =
