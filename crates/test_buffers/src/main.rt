@@ -3,6 +3,9 @@
 use answers::Verdict;
 use kinds::Kind;
 use kinds::Role;
+use test_print::print_number;
+use test_print::print_text;
+use test_print::print_verdict;
 
 // The largest prime below 2^32: sums are taken modulo it.
 const PRIME: u64 = 4294967291;
@@ -122,9 +125,9 @@ fn trial_cut(case: Case, spoiled: Spoiled, words: &mut [u32], matrix: &mut [u64]
 }
 
 fn trial_in(kind: u32, role: u32, spoiled: Spoiled, words: &mut [u32], matrix: &mut [u64]) {
-    number(b"kind ", kind as u64);
-    number(b" role ", role as u64);
-    lengths(words.len(), b" words, ", matrix.len(), b" entries");
+    print_number(b"kind ", kind as u64);
+    print_number(b" role ", role as u64);
+    print_lengths(words.len(), matrix.len(), b" entries");
     there(kind, role, words, matrix);
     spoil(matrix, spoiled);
     back(kind, role, matrix, words);
@@ -132,18 +135,18 @@ fn trial_in(kind: u32, role: u32, spoiled: Spoiled, words: &mut [u32], matrix: &
 
 fn there(kind: u32, role: u32, words: &mut [u32], matrix: &mut [u64]) {
     make(words, kind, role);
-    tell(
+    print_verdict(
         b": unpack ",
         unpack::unpack(Kind(kind), Role(role), words, matrix),
     );
-    number(b", sum ", sum(matrix));
+    print_number(b", sum ", sum(matrix));
 }
 
 fn back(kind: u32, role: u32, matrix: &[u64], words: &mut [u32]) {
     make(words, 0, 0);
     let v = pack::pack(Kind(kind), Role(role), matrix, words);
-    tell(b", pack ", v);
-    tell_words(v, words, kind, role);
+    print_verdict(b", pack ", v);
+    print_words(v, words, kind, role);
 }
 
 // The same with a template record of so many bytes.
@@ -164,27 +167,27 @@ fn template_cut(n: usize, bytes: usize, words: &mut [u32], record: &mut [u8]) {
 }
 
 fn template_in(words: &mut [u32], record: &mut [u8]) {
-    text(b"template");
-    lengths(words.len(), b" words, ", record.len(), b" bytes");
+    print_text(b"template");
+    print_lengths(words.len(), record.len(), b" bytes");
     make(words, 3, 1);
-    tell(b": write ", template::write(words, record));
-    number(b", sum ", sum_bytes(record));
+    print_verdict(b": write ", template::write(words, record));
+    print_number(b", sum ", sum_bytes(record));
     make(words, 0, 0);
     let v = template::read(record, words);
-    tell(b", read ", v);
-    tell_words(v, words, 3, 1);
+    print_verdict(b", read ", v);
+    print_words(v, words, 3, 1);
 }
 
 // Where the call was accepted the words should be those of the kind and the role again, and otherwise those that stood there.
-fn tell_words(v: Verdict, words: &[u32], kind: u32, role: u32) {
+fn print_words(v: Verdict, words: &[u32], kind: u32, role: u32) {
     match v {
         Verdict::Accepted => {
-            number(b", ", differ(words, kind, role));
-            text(b" words differ\n");
+            print_number(b", ", differ(words, kind, role));
+            print_text(b" words differ\n");
         }
         Verdict::Refused(_) => {
-            number(b", ", differ(words, 0, 0));
-            text(b" words changed\n");
+            print_number(b", ", differ(words, 0, 0));
+            print_text(b" words changed\n");
         }
     }
 }
@@ -194,9 +197,9 @@ fn spoil(matrix: &mut [u64], spoiled: Spoiled) {
     if x == 0 {
         return;
     }
-    number(b", ", x);
-    number(b" at ", spoiled.1 as u64);
-    number(b" and ", spoiled.2 as u64);
+    print_number(b", ", x);
+    print_number(b" at ", spoiled.1 as u64);
+    print_number(b" and ", spoiled.2 as u64);
     put(matrix, spoiled.1, x);
     put(matrix, spoiled.2, x);
 }
@@ -264,29 +267,8 @@ fn wide(x: u8) -> u64 {
     x as u64
 }
 
-fn lengths(n: usize, words: &[u8], m: usize, other: &[u8]) {
-    number(b", ", n as u64);
-    text(words);
-    io::print_decimal(1, m as u64);
-    text(other);
-}
-
-fn tell(call: &[u8], v: Verdict) {
-    text(call);
-    match v {
-        Verdict::Accepted => text(b"accepted"),
-        Verdict::Refused(x) => {
-            number(b"refused ", x.number() as u64);
-            number(b" ", x.detail() as u64);
-        }
-    }
-}
-
-fn number(before: &[u8], n: u64) {
-    text(before);
-    io::print_decimal(1, n);
-}
-
-fn text(t: &[u8]) {
-    io::write_all(1, t);
+fn print_lengths(n: usize, m: usize, other: &[u8]) {
+    print_number(b", ", n as u64);
+    print_number(b" words, ", m as u64);
+    print_text(other);
 }

@@ -1,21 +1,18 @@
 // What lookup prints at the corners: every kind 0 to 11 and role 0 to 3, with lanes 0, 31 and 32 and elements 0, the last, the next
 // and 255, each line after its record's four numbers.
 ghost use Prim.Native.Nat.{_<_};
-use libc::STDOUT_FILENO;
-
-fn number(n: u8, after: &[u8]) {
-    io::print_decimal(STDOUT_FILENO, n as u64);
-    io::write_all(STDOUT_FILENO, after);
-}
+use test_print::print_number;
+use test_print::print_text;
 
 fn line(kind: u8, role: u8, lane: u8, element: u8) {
-    number(kind, b" ");
-    number(role, b" ");
-    number(lane, b" ");
-    number(element, b": ");
+    print_number(b"", kind as u64);
+    print_number(b" ", role as u64);
+    print_number(b" ", lane as u64);
+    print_number(b" ", element as u64);
+    print_text(b": ");
     let mut text = [0u8; 26];
     let end = lookup_text::put_lines(&[kind, role, lane, element], &mut text);
-    io::write_all(STDOUT_FILENO, &text[..end]);
+    print_text(&text[..end]);
 }
 
 fn elements(kind: u8, role: u8, lane: u8, last: u8)

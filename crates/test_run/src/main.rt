@@ -4,6 +4,12 @@ use kinds::Kind;
 use kinds::Mode;
 use kinds::Signs;
 use run::Run;
+use test_print::first_other;
+use test_print::print_number;
+use test_print::print_refusal;
+use test_print::print_text;
+use test_print::print_verdict;
+use test_print::print_word;
 
 // Kind 3: every element -128, every element 127, and C 100 below the limit.
 const A_LOW: [u32; 128] = [0x8080_8080; 128];
@@ -22,56 +28,10 @@ const ZEROS: [u32; 128] = [0; 128];
 // What stands in D before a read.
 const BEFORE: u32 = 77;
 
-fn print_text(s: &[u8]) {
-    io::write_all(1, s);
-}
-
-fn print_number(n: u32) {
-    io::print_decimal(1, n as u64);
-}
-
-fn print_length(n: usize) {
-    io::print_decimal(1, n as u64);
-}
-
-// A word as a signed number.
-fn print_word(w: u32) {
-    if w < 0x8000_0000 {
-        print_number(w);
-    } else {
-        print_text(b"-");
-        io::print_decimal(1, 0x1_0000_0000 - w as u64);
-    }
-}
-
-fn print_verdict(verdict: Verdict) {
-    match verdict {
-        Verdict::Accepted => print_text(b"accepted"),
-        Verdict::Refused(refusal) => {
-            print_text(b"refused ");
-            print_number(refusal.number());
-            print_text(b" ");
-            print_number(refusal.detail());
-        }
-    }
-}
-
-// The index of the first word that is not w, or the length where all are.
-fn first_other(words: &[u32], w: u32) -> usize {
-    let mut i = 0;
-    while i < words.len() {
-        if words[i] != w {
-            return i;
-        }
-        i += 1;
-    }
-    i
-}
-
 // The number that all words have.
 fn print_words(words: &[u32]) {
     let n = words.len();
-    print_length(n);
+    print_number(b"", n as u64);
     if n == 0 {
         return;
     }
@@ -91,28 +51,35 @@ fn print_unused(sums: &[u32], used: usize) {
     }
 }
 
-// The number of blocks, the used sums, read into d, and the rest.
-fn print_run(run: Run, d: &mut [u32]) {
-    print_number(run.blocks);
+fn print_run(before: &[u8], run: Run, d: &mut [u32]) {
+    print_number(before, run.blocks as u64);
     print_text(b" blocks, sums ");
+    print_sums(run, d);
+}
+
+// The used sums, read into d, and the rest.
+fn print_sums(run: Run, d: &mut [u32]) {
     let read = run.read(d);
     let verdict = read.verdict;
     match verdict {
         Verdict::Accepted => print_words(d),
-        Verdict::Refused(_) => print_verdict(verdict),
+        Verdict::Refused(refusal) => print_refusal(refusal),
     }
     let sums = run.sums;
     print_unused(&sums, d.len());
     print_text(b"\n");
 }
 
-fn print_selectors(kind: Kind, signs: Signs, mode: Mode) {
-    print_text(b"kind ");
-    print_number(kind.0);
-    print_text(b" signs ");
-    print_number(signs.0);
-    print_text(b" mode ");
-    print_number(mode.0);
+fn print_selectors(call: &[u8], kind: u32, signs: u32, mode: u32) {
+    print_number(call, kind as u64);
+    print_number(b" signs ", signs as u64);
+    print_number(b" mode ", mode as u64);
+}
+
+// A call on a run.
+fn print_call(call: &[u8], run: Run) {
+    print_selectors(call, run.kind.0, run.signs.0, run.mode.0);
+    print_number(b" blocks ", run.blocks as u64);
 }
 
 fn same_sums(x: [u32; 128], y: [u32; 128]) -> bool {
@@ -146,20 +113,30 @@ fn same(x: Run, y: Run) -> bool {
 
 fn print_same(x: Run, y: Run) {
     if same(x, y) {
-        print_text(b", run as it was");
+        print_text(b", run as it was\n");
     } else {
-        print_text(b", run changed");
+        print_text(b", run changed\n");
     }
 }
 
 // A run made up by hand, every sum 5.
-fn made(kind: Kind, signs: Signs, mode: Mode, blocks: u32) -> Run {
+fn made(kind: u32, signs: u32, mode: u32, blocks: u32) -> Run {
     Run {
-        kind,
-        signs,
-        mode,
+        kind: Kind(kind),
+        signs: Signs(signs),
+        mode: Mode(mode),
         blocks,
         sums: [5; 128],
+    }
+}
+
+fn zero() -> Run {
+    Run {
+        kind: Kind(0),
+        signs: Signs(0),
+        mode: Mode(0),
+        blocks: 0,
+        sums: ZEROS,
     }
 }
 
@@ -176,186 +153,191 @@ fn fed(run: Run, times: u32, a: &[u32], b: &[u32]) -> Run {
     r
 }
 
-fn show_open(kind: Kind, signs: Signs, mode: Mode, c: &[u32]) {
-    print_text(b"open ");
-    print_selectors(kind, signs, mode);
-    print_text(b", C ");
-    print_length(c.len());
-    print_text(b" words: ");
-    let opened = Run::open(kind, signs, mode, c);
+fn opened(kind: u32, mode: u32, c: &[u32]) -> Run {
+    let opened = Run::open(Kind(kind), Signs(0), Mode(mode), c);
+    let run = opened.run;
+    run
+}
+
+fn show_open(kind: u32, signs: u32, mode: u32, c: &[u32]) {
+    print_selectors(b"open kind ", kind, signs, mode);
+    print_number(b", C ", c.len() as u64);
+    let opened = Run::open(Kind(kind), Signs(signs), Mode(mode), c);
     let verdict = opened.verdict;
     let after = opened.run;
-    print_verdict(verdict);
-    let zero = Run {
-        kind: Kind(0),
-        signs: Signs(0),
-        mode: Mode(0),
-        blocks: 0,
-        sums: ZEROS,
-    };
-    if same(after, zero) {
+    print_verdict(b" words: ", verdict);
+    if same(after, zero()) {
         print_text(b", run 0 throughout");
     }
     print_text(b"\n");
 }
 
 fn show_feed(run: Run, a: &[u32], b: &[u32]) {
-    let kind = run.kind;
-    let signs = run.signs;
-    let mode = run.mode;
-    print_text(b"feed ");
-    print_selectors(kind, signs, mode);
-    print_text(b" blocks ");
-    print_number(run.blocks);
-    print_text(b", A ");
-    print_length(a.len());
-    print_text(b" words, B ");
-    print_length(b.len());
-    print_text(b" words: ");
+    print_call(b"feed kind ", run);
+    print_number(b", A ", a.len() as u64);
+    print_number(b" words, B ", b.len() as u64);
     let next = run.feed(a, b);
     let verdict = next.verdict;
     let after = next.run;
-    print_verdict(verdict);
+    print_verdict(b" words: ", verdict);
     print_same(after, run);
-    print_text(b"\n");
 }
 
 fn show_read(run: Run, d: &mut [u32]) {
-    let kind = run.kind;
-    let signs = run.signs;
-    let mode = run.mode;
-    print_text(b"read ");
-    print_selectors(kind, signs, mode);
-    print_text(b" blocks ");
-    print_number(run.blocks);
-    print_text(b", D ");
-    print_length(d.len());
-    print_text(b" words: ");
+    print_call(b"read kind ", run);
+    print_number(b", D ", d.len() as u64);
     let read = run.read(d);
     let verdict = read.verdict;
     let after = read.run;
-    print_verdict(verdict);
+    print_verdict(b" words: ", verdict);
+    print_read(d);
+    print_same(after, run);
+}
+
+fn print_read(d: &[u32]) {
     if first_other(d, BEFORE) == d.len() {
         print_text(b", D as it was");
     } else {
         print_text(b", D ");
         print_words(d);
     }
-    print_same(after, run);
-    print_text(b"\n");
+}
+
+// Kind 3: the block of A_LOW and b fed so many times, and what the run then has.
+fn print_fed(before: &[u8], run: Run, times: u32, b: &[u32]) -> Run {
+    let mut d: [u32; 128] = [BEFORE; 128];
+    let after = fed(run, times, &A_LOW, b);
+    print_run(before, after, &mut d);
+    after
+}
+
+// Kind 1.
+fn print_ones(before: &[u8], run: Run) {
+    let mut d: [u32; 64] = [BEFORE; 64];
+    print_run(before, run, &mut d);
 }
 
 // The -128 block, 4,095 times, once more, and a further time.
-fn figures(mode: Mode) {
-    let mut d: [u32; 128] = [BEFORE; 128];
-    print_text(b"mode ");
-    print_number(mode.0);
-    print_text(b", opened: ");
-    let opened = Run::open(Kind(3), Signs(0), mode, &ZEROS);
-    let run = opened.run;
-    print_run(run, &mut d);
-    print_text(b"fed 4095 times: ");
-    let many = fed(run, 4095, &A_LOW, &B_LOW);
-    print_run(many, &mut d);
-    print_text(b"once more: ");
-    let full = fed(many, 1, &A_LOW, &B_LOW);
-    print_run(full, &mut d);
+fn figures(mode: u32) {
+    print_number(b"mode ", mode as u64);
+    let run = opened(3, mode, &ZEROS);
+    print_fed(b", opened: ", run, 0, &B_LOW);
+    let many = print_fed(b"fed 4095 times: ", run, 4095, &B_LOW);
+    let full = print_fed(b"once more: ", many, 1, &B_LOW);
     show_feed(full, &A_LOW, &B_LOW);
 }
 
 // Blocks P and N in both orders.
-fn orders(mode: Mode) {
-    let mut d: [u32; 128] = [BEFORE; 128];
-    let opened = Run::open(Kind(3), Signs(0), mode, &C_NEAR);
-    let run = opened.run;
-    print_text(b"mode ");
-    print_number(mode.0);
-    print_text(b", P then N: ");
-    let p = fed(run, 1, &A_LOW, &B_LOW);
-    print_run(fed(p, 1, &A_LOW, &B_HIGH), &mut d);
-    print_text(b"mode ");
-    print_number(mode.0);
-    print_text(b", N then P: ");
-    let n = fed(run, 1, &A_LOW, &B_HIGH);
-    print_run(fed(n, 1, &A_LOW, &B_LOW), &mut d);
+fn orders(mode: u32) {
+    let run = opened(3, mode, &C_NEAR);
+    print_order(b", P then N: ", run, &B_LOW, &B_HIGH);
+    print_order(b", N then P: ", run, &B_HIGH, &B_LOW);
+}
+
+fn print_order(order: &[u8], run: Run, first: &[u32], second: &[u32]) {
+    print_number(b"mode ", run.mode.0 as u64);
+    let half = fed(run, 1, &A_LOW, first);
+    print_fed(order, half, 1, second);
 }
 
 fn by_hand() {
-    let mut d: [u32; 64] = [BEFORE; 64];
-    let run = made(Kind(1), Signs(0), Mode(0), 7);
-    print_text(b"as it is: ");
-    print_run(run, &mut d);
-    print_text(b"fed twice: ");
-    print_run(fed(run, 2, &A_ONES, &ZEROS[..32]), &mut d);
-    print_text(b"opened from C all 0: ");
-    let opened = Run::open(Kind(1), Signs(0), Mode(0), &ZEROS[..64]);
-    let new = opened.run;
-    print_run(new, &mut d);
+    let run = made(1, 0, 0, 7);
+    print_ones(b"as it is: ", run);
+    print_ones(b"fed twice: ", fed(run, 2, &A_ONES, &[0; 32]));
+    print_ones(b"opened from C all 0: ", opened(1, 0, &[0; 64]));
+}
+
+// An opening from a C of so many words.
+fn open_from(kind: u32, signs: u32, mode: u32, n: usize) {
+    open_cut(kind, signs, mode, &ZEROS, n);
+}
+
+fn open_cut(kind: u32, signs: u32, mode: u32, c: &[u32], n: usize) {
+    if n <= c.len() {
+        show_open(kind, signs, mode, &c[0..n]);
+    }
 }
 
 fn open_refusals() {
-    show_open(Kind(0), Signs(0), Mode(0), &ZEROS);
-    show_open(Kind(11), Signs(0), Mode(0), &ZEROS);
-    show_open(Kind(6), Signs(0), Mode(0), &ZEROS);
-    show_open(Kind(10), Signs(0), Mode(0), &ZEROS);
-    show_open(Kind(3), Signs(4), Mode(0), &ZEROS);
-    show_open(Kind(3), Signs(0), Mode(2), &ZEROS);
-    show_open(Kind(1), Signs(1), Mode(0), &ZEROS[..64]);
-    show_open(Kind(3), Signs(0), Mode(0), &ZEROS[..127]);
-    show_open(Kind(1), Signs(0), Mode(0), &ZEROS);
-    show_open(Kind(11), Signs(4), Mode(2), &ZEROS[..0]);
-    show_open(Kind(6), Signs(4), Mode(2), &ZEROS[..0]);
-    show_open(Kind(5), Signs(4), Mode(2), &ZEROS[..0]);
-    show_open(Kind(5), Signs(3), Mode(1), &ZEROS[..0]);
+    open_from(0, 0, 0, 128);
+    open_from(11, 0, 0, 128);
+    open_from(6, 0, 0, 128);
+    open_from(10, 0, 0, 128);
+    open_from(3, 4, 0, 128);
+    open_from(3, 0, 2, 128);
+    open_from(1, 1, 0, 64);
+    open_from(3, 0, 0, 127);
+    open_from(1, 0, 0, 128);
+    open_from(11, 4, 2, 0);
+    open_from(6, 4, 2, 0);
+    open_from(5, 4, 2, 0);
+    open_from(5, 3, 1, 0);
+}
+
+// A block of so many words of A and so many of B.
+fn feed_with(run: Run, a: usize, b: usize) {
+    feed_cut(run, &A_LOW, a, b);
+}
+
+fn feed_cut(run: Run, words: &[u32], a: usize, b: usize) {
+    if words.len() < a {
+        return;
+    }
+    if words.len() < b {
+        return;
+    }
+    show_feed(run, &words[0..a], &words[0..b]);
 }
 
 fn feed_refusals() {
-    let a = &A_LOW;
-    let b = &B_LOW;
-    show_feed(made(Kind(0), Signs(0), Mode(0), 0), a, b);
-    show_feed(made(Kind(6), Signs(0), Mode(0), 0), a, b);
-    show_feed(made(Kind(11), Signs(0), Mode(0), 0), a, b);
-    show_feed(made(Kind(3), Signs(4), Mode(0), 0), a, b);
-    show_feed(made(Kind(3), Signs(0), Mode(2), 0), a, b);
-    show_feed(made(Kind(1), Signs(1), Mode(0), 0), &A_ONES, &A_ONES);
-    show_feed(made(Kind(3), Signs(0), Mode(0), 4097), a, b);
-    show_feed(made(Kind(3), Signs(0), Mode(0), 4096), a, b);
-    show_feed(made(Kind(3), Signs(0), Mode(0), 0), &A_LOW[..127], b);
-    show_feed(made(Kind(3), Signs(0), Mode(0), 0), a, &B_LOW[..63]);
-    show_feed(made(Kind(3), Signs(0), Mode(0), 0), b, a);
-    show_feed(made(Kind(6), Signs(4), Mode(2), 4097), b, a);
-    show_feed(made(Kind(3), Signs(0), Mode(0), 4096), b, a);
-    show_feed(made(Kind(3), Signs(0), Mode(0), 4095), a, b);
+    feed_with(made(0, 0, 0, 0), 128, 64);
+    feed_with(made(6, 0, 0, 0), 128, 64);
+    feed_with(made(11, 0, 0, 0), 128, 64);
+    feed_with(made(3, 4, 0, 0), 128, 64);
+    feed_with(made(3, 0, 2, 0), 128, 64);
+    feed_with(made(1, 1, 0, 0), 32, 32);
+    feed_with(made(3, 0, 0, 4097), 128, 64);
+    feed_with(made(3, 0, 0, 4096), 128, 64);
+    feed_with(made(3, 0, 0, 0), 127, 64);
+    feed_with(made(3, 0, 0, 0), 128, 63);
+    feed_with(made(3, 0, 0, 0), 64, 128);
+    feed_with(made(6, 4, 2, 4097), 64, 128);
+    feed_with(made(3, 0, 0, 4096), 64, 128);
+    feed_with(made(3, 0, 0, 4095), 128, 64);
 }
 
 // A read into a D of so many words.
 fn read_into(run: Run, n: usize) {
     let mut d: [u32; 128] = [BEFORE; 128];
-    if n <= 128 {
-        show_read(run, &mut d[..n]);
+    read_cut(run, &mut d, n);
+}
+
+fn read_cut(run: Run, d: &mut [u32], n: usize) {
+    if n <= d.len() {
+        show_read(run, &mut d[0..n]);
     }
 }
 
 fn read_refusals() {
-    read_into(made(Kind(0), Signs(0), Mode(0), 0), 128);
-    read_into(made(Kind(6), Signs(0), Mode(0), 0), 128);
-    read_into(made(Kind(3), Signs(4), Mode(0), 0), 128);
-    read_into(made(Kind(3), Signs(0), Mode(2), 0), 128);
-    read_into(made(Kind(1), Signs(1), Mode(0), 0), 64);
-    read_into(made(Kind(3), Signs(0), Mode(0), 4097), 128);
-    read_into(made(Kind(3), Signs(0), Mode(0), 0), 127);
-    read_into(made(Kind(1), Signs(0), Mode(0), 0), 128);
-    read_into(made(Kind(6), Signs(4), Mode(2), 4097), 0);
-    read_into(made(Kind(3), Signs(0), Mode(0), 4096), 128);
+    read_into(made(0, 0, 0, 0), 128);
+    read_into(made(6, 0, 0, 0), 128);
+    read_into(made(3, 4, 0, 0), 128);
+    read_into(made(3, 0, 2, 0), 128);
+    read_into(made(1, 1, 0, 0), 64);
+    read_into(made(3, 0, 0, 4097), 128);
+    read_into(made(3, 0, 0, 0), 127);
+    read_into(made(1, 0, 0, 0), 128);
+    read_into(made(6, 4, 2, 4097), 0);
+    read_into(made(3, 0, 0, 4096), 128);
 }
 
 fn main() {
     print_text(b"kind 3, signs 0, C all 0, block: all A and all B -128\n");
-    figures(Mode(0));
-    figures(Mode(1));
+    figures(0);
+    figures(1);
     print_text(b"kind 3, signs 0, C all 2147483547, block P adds 524288, block N adds -520192\n");
-    orders(Mode(0));
-    orders(Mode(1));
+    orders(0);
+    orders(1);
     print_text(b"made up by hand: kind 1, mode 0, 7 blocks, all sums 5, block: all A 1, all B 0\n");
     by_hand();
     print_text(b"refusals, number and detail\n");

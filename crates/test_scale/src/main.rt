@@ -4,10 +4,10 @@ use scale::ByteId;
 use scale::Side;
 use scale::Size;
 use scale::ThreadId;
-
-const SIDE_A: Side = Side(Side::A);
-
-const SIDE_B: Side = Side(Side::B);
+use test_print::print_number;
+use test_print::print_refusal;
+use test_print::print_signed;
+use test_print::print_text;
 
 // The figures' metadata word, in every lane.
 const WORD: [u32; 32] = [0x807F0100; 32];
@@ -48,24 +48,6 @@ const VARIED: [u32; 32] = [
     0xF87C3E1F,
 ];
 
-fn print_text(s: &[u8]) {
-    io::write_all(1, s);
-}
-
-fn print_number(n: u32) {
-    io::print_decimal(1, n as u64);
-}
-
-fn print_signed(z: i32) {
-    let n = z as i64;
-    if n < 0 {
-        print_text(b"-");
-        io::print_decimal(1, (0 - n) as u64);
-    } else {
-        io::print_decimal(1, n as u64);
-    }
-}
-
 fn print_all(out: &[i32]) {
     let mut x = 0;
     while x < out.len() {
@@ -75,138 +57,127 @@ fn print_all(out: &[i32]) {
     }
 }
 
-fn print_side(side: Side) {
-    let s = side.0;
-    if s == Side::A {
+fn print_side(side: u32) {
+    if side == Side::A {
         print_text(b"A");
-        return;
-    }
-    if s == Side::B {
+    } else if side == Side::B {
         print_text(b"B");
-        return;
+    } else {
+        print_number(b"", side as u64);
     }
-    print_number(s);
 }
 
-fn print_selectors(size: Size, side: Side, byte_id: ByteId, thread_id: ThreadId) {
-    print_text(b"size ");
-    print_number(size.0);
+// A call's size, side, byte-id and thread-id.
+struct Selectors(u32, u32, u32, u32);
+
+fn print_selectors(selectors: Selectors) {
+    print_number(b"size ", selectors.0 as u64);
     print_text(b" side ");
-    print_side(side);
-    print_text(b" byte-id ");
-    print_number(byte_id.0);
-    print_text(b" thread-id ");
-    print_number(thread_id.0);
+    print_side(selectors.1);
+    print_number(b" byte-id ", selectors.2 as u64);
+    print_number(b" thread-id ", selectors.3 as u64);
 }
 
-// One call: its selectors, the lengths of its buffers, and what it answers.
-fn show(
-    size: Size,
-    side: Side,
-    byte_id: ByteId,
-    thread_id: ThreadId,
-    metadata: &[u32],
-    out: &mut [i32],
-) {
-    print_selectors(size, side, byte_id, thread_id);
-    print_text(b", ");
-    io::print_decimal(1, metadata.len() as u64);
-    print_text(b" words to ");
-    io::print_decimal(1, out.len() as u64);
+// One call, to so many numbers.
+fn show(selectors: Selectors, metadata: &[u32], n: usize) {
+    let mut out: [i32; 64] = [0; 64];
+    show_cut(selectors, metadata, &mut out, n);
+}
+
+fn show_cut(selectors: Selectors, metadata: &[u32], out: &mut [i32], n: usize) {
+    if n <= out.len() {
+        show_in(selectors, metadata, &mut out[0..n]);
+    }
+}
+
+// Its selectors, the lengths of its buffers, and what it answers.
+fn show_in(selectors: Selectors, metadata: &[u32], out: &mut [i32]) {
+    print_selectors(selectors);
+    print_number(b", ", metadata.len() as u64);
+    print_number(b" words to ", out.len() as u64);
     print_text(b" numbers:");
-    let verdict = scale::scale(size, side, byte_id, thread_id, metadata, out);
+    let verdict = scale::scale(
+        Size(selectors.0),
+        Side(selectors.1),
+        ByteId(selectors.2),
+        ThreadId(selectors.3),
+        metadata,
+        out,
+    );
+    print_answer(verdict, out);
+}
+
+fn print_answer(verdict: Verdict, out: &[i32]) {
     match verdict {
         Verdict::Accepted => print_all(out),
         Verdict::Refused(refusal) => {
-            print_text(b" refused ");
-            print_number(refusal.number());
             print_text(b" ");
-            print_number(refusal.detail());
+            print_refusal(refusal);
         }
     }
     print_text(b"\n");
 }
 
-fn on_word(size: Size, side: Side, byte_id: ByteId, thread_id: ThreadId, out: &mut [i32]) {
-    show(size, side, byte_id, thread_id, &WORD, out);
+fn on_word(size: u32, side: u32, byte_id: u32, thread_id: u32, n: usize) {
+    show(Selectors(size, side, byte_id, thread_id), &WORD, n);
 }
 
-fn on_varied(size: Size, side: Side, byte_id: ByteId, thread_id: ThreadId, out: &mut [i32]) {
-    show(size, side, byte_id, thread_id, &VARIED, out);
+fn on_varied(size: u32, side: u32, byte_id: u32, thread_id: u32, n: usize) {
+    show(Selectors(size, side, byte_id, thread_id), &VARIED, n);
 }
 
 fn figures() {
-    let mut eight: [i32; 8] = [0; 8];
-    let mut sixteen: [i32; 16] = [0; 16];
-    on_word(Size(1), SIDE_B, ByteId(0), ThreadId(0), &mut eight);
-    on_word(Size(1), SIDE_B, ByteId(1), ThreadId(0), &mut eight);
-    on_word(Size(1), SIDE_B, ByteId(2), ThreadId(0), &mut eight);
-    on_word(Size(1), SIDE_B, ByteId(3), ThreadId(0), &mut eight);
-    on_word(Size(2), SIDE_B, ByteId(2), ThreadId(0), &mut sixteen);
-    on_word(Size(2), SIDE_B, ByteId(1), ThreadId(0), &mut sixteen);
+    on_word(1, Side::B, 0, 0, 8);
+    on_word(1, Side::B, 1, 0, 8);
+    on_word(1, Side::B, 2, 0, 8);
+    on_word(1, Side::B, 3, 0, 8);
+    on_word(2, Side::B, 2, 0, 16);
+    on_word(2, Side::B, 1, 0, 16);
 }
 
 fn side_a() {
-    let mut sixteen: [i32; 16] = [0; 16];
-    let mut thirty_two: [i32; 32] = [0; 32];
-    let mut sixty_four: [i32; 64] = [0; 64];
-    on_varied(Size(1), SIDE_A, ByteId(0), ThreadId(0), &mut sixteen);
-    on_varied(Size(1), SIDE_A, ByteId(3), ThreadId(1), &mut sixteen);
-    on_varied(Size(2), SIDE_A, ByteId(0), ThreadId(1), &mut thirty_two);
-    on_varied(Size(2), SIDE_A, ByteId(2), ThreadId(0), &mut thirty_two);
-    on_varied(Size(4), SIDE_A, ByteId(0), ThreadId(0), &mut sixty_four);
-    on_varied(Size(4), SIDE_A, ByteId(0), ThreadId(1), &mut sixty_four);
+    on_varied(1, Side::A, 0, 0, 16);
+    on_varied(1, Side::A, 3, 1, 16);
+    on_varied(2, Side::A, 0, 1, 32);
+    on_varied(2, Side::A, 2, 0, 32);
+    on_varied(4, Side::A, 0, 0, 64);
+    on_varied(4, Side::A, 0, 1, 64);
 }
 
 fn side_b() {
-    let mut eight: [i32; 8] = [0; 8];
-    let mut sixteen: [i32; 16] = [0; 16];
-    let mut thirty_two: [i32; 32] = [0; 32];
-    on_varied(Size(1), SIDE_B, ByteId(1), ThreadId(0), &mut eight);
-    on_varied(Size(1), SIDE_B, ByteId(2), ThreadId(1), &mut eight);
-    on_varied(Size(2), SIDE_B, ByteId(0), ThreadId(2), &mut sixteen);
-    on_varied(Size(2), SIDE_B, ByteId(2), ThreadId(3), &mut sixteen);
-    on_varied(Size(4), SIDE_B, ByteId(0), ThreadId(3), &mut thirty_two);
+    on_varied(1, Side::B, 1, 0, 8);
+    on_varied(1, Side::B, 2, 1, 8);
+    on_varied(2, Side::B, 0, 2, 16);
+    on_varied(2, Side::B, 2, 3, 16);
+    on_varied(4, Side::B, 0, 3, 32);
 }
 
 fn refusals() {
-    let mut out: [i32; 16] = [0; 16];
-    on_word(Size(0), SIDE_A, ByteId(0), ThreadId(0), &mut out);
-    on_word(Size(3), SIDE_A, ByteId(0), ThreadId(0), &mut out);
-    on_word(Size(1), Side(2), ByteId(0), ThreadId(0), &mut out);
-    on_word(Size(1), SIDE_A, ByteId(4), ThreadId(0), &mut out);
-    on_word(Size(2), SIDE_B, ByteId(3), ThreadId(0), &mut out);
-    on_word(Size(4), SIDE_B, ByteId(2), ThreadId(0), &mut out);
-    on_word(Size(1), SIDE_A, ByteId(0), ThreadId(2), &mut out);
-    on_word(Size(1), SIDE_B, ByteId(0), ThreadId(4), &mut out);
-    show(
-        Size(1),
-        SIDE_A,
-        ByteId(0),
-        ThreadId(0),
-        &WORD[..31],
-        &mut out,
-    );
-    on_word(Size(1), SIDE_B, ByteId(0), ThreadId(0), &mut out);
+    on_word(0, Side::A, 0, 0, 16);
+    on_word(3, Side::A, 0, 0, 16);
+    on_word(1, 2, 0, 0, 16);
+    on_word(1, Side::A, 4, 0, 16);
+    on_word(2, Side::B, 3, 0, 16);
+    on_word(4, Side::B, 2, 0, 16);
+    on_word(1, Side::A, 0, 2, 16);
+    on_word(1, Side::B, 0, 4, 16);
+    show(Selectors(1, Side::A, 0, 0), &WORD[..31], 16);
+    on_word(1, Side::B, 0, 0, 16);
+}
+
+// On no metadata.
+fn on_none(size: u32, side: u32, byte_id: u32, thread_id: u32, n: usize) {
+    show(Selectors(size, side, byte_id, thread_id), &WORD[..0], n);
 }
 
 // Each call has every refusal from its first on.
 fn several() {
-    let mut out: [i32; 5] = [0; 5];
-    let none = &WORD[..0];
-    show(
-        Size(4294967295),
-        Side(4294967295),
-        ByteId(4294967295),
-        ThreadId(4294967295),
-        none,
-        &mut out,
-    );
-    show(Size(1), Side(2), ByteId(4), ThreadId(4), none, &mut out);
-    show(Size(1), SIDE_A, ByteId(4), ThreadId(4), none, &mut out);
-    show(Size(1), SIDE_A, ByteId(3), ThreadId(4), none, &mut out);
-    show(Size(1), SIDE_A, ByteId(3), ThreadId(1), none, &mut out);
-    on_word(Size(1), SIDE_A, ByteId(3), ThreadId(1), &mut out);
+    on_none(4294967295, 4294967295, 4294967295, 4294967295, 5);
+    on_none(1, 2, 4, 4, 5);
+    on_none(1, Side::A, 4, 4, 5);
+    on_none(1, Side::A, 3, 4, 5);
+    on_none(1, Side::A, 3, 1, 5);
+    on_word(1, Side::A, 3, 1, 5);
 }
 
 fn main() {

@@ -11,8 +11,8 @@ use lib.Signed.{ltZ, nonNeg}
 use mir.Syntax.{w32, w64}
 use mir.Val.{Fits, SFits, toZ, ofZ}
 use mir.ValLaws.{toZ-ofZ}
-use Rattle.test_scale.proofs.print_signed.Statement.{statement}
-use Rattle.test_scale.proofs.print_signed.Tie as tie
+use Rattle.test_print.proofs.print_signed.Statement.{statement}
+use Rattle.test_print.proofs.print_signed.Tie as tie
 
 -- what a cast to u64 asks
 abbrev Casts : ℤ → Type 0
@@ -38,33 +38,34 @@ below c = subst (λ (z : ℤ). ltZ z (pos 0) ≡ true) (back _ (c .before .fits 
 cast-n : tie.Need-cast-n
 cast-n c = subst (SFits w64) (sym (toZ-ofZ w32 _ (c .fits .z))) (wide _ (c .fits .z))
 
-slice-aggregate-print-text : tie.Need-slice-aggregate-print-text
-slice-aggregate-print-text c = search needs
+slice-aggregate-print-number : tie.Need-slice-aggregate-print-number
+slice-aggregate-print-number c = search needs
 
-print-text-requires : tie.Need-print-text-requires
-print-text-requires c κs = search needs
+sub-print-number : tie.Need-sub-print-number
+sub-print-number c =
+    let s = c .before .before in
+    subst (λ (z : ℤ). SFits w64 (pos 0 -ℤ z)) (sym (back _ (s .fits .z))) (minus _ (s .fits .z) (below (c .before)) .0)
 
-sub-print-decimal : tie.Need-sub-print-decimal
-sub-print-decimal c =
-    let s = c .before .before .before in
-    subst (λ (z : ℤ). SFits w64 (pos 0 -ℤ z)) (sym (back _ (s .fits .z))) (minus _ (s .fits .z) (below (c .before .before)) .0)
-
-cast-print-decimal : tie.Need-cast-print-decimal
-cast-print-decimal c =
-    let s = c .before .before .before in
-    let m = minus _ (s .fits .z) (below (c .before .before)) in
+cast-print-number : tie.Need-cast-print-number
+cast-print-number c =
+    let s = c .before .before in
+    let m = minus _ (s .fits .z) (below (c .before)) in
     subst Casts (sym (ap (λ (z : ℤ). toZ w64 (ofZ w64 (pos 0 -ℤ z))) (back _ (s .fits .z)) ∙ toZ-ofZ w64 _ (m .0))) (m .1)
 
-print-decimal-requires : tie.Need-print-decimal-requires
-print-decimal-requires c κs = search needs
+print-number-requires : tie.Need-print-number-requires
+print-number-requires c κs = search needs
 
-cast-print-decimal-2 : tie.Need-cast-print-decimal-2
-cast-print-decimal-2 c =
-    let e = back _ (c .before .fits .z) in
-    subst Casts (sym e) (plain _ (c .before .fits .z) (subst (λ (z : ℤ). ltZ z (pos 0) ≡ false) e (c .if1 .left)))
+slice-aggregate-print-number-2 : tie.Need-slice-aggregate-print-number-2
+slice-aggregate-print-number-2 c = search needs
 
-print-decimal-requires-2 : tie.Need-print-decimal-requires-2
-print-decimal-requires-2 c κs = search needs
+cast-print-number-2 : tie.Need-cast-print-number-2
+cast-print-number-2 c =
+    let s = c .before .before in
+    let e = back _ (s .fits .z) in
+    subst Casts (sym e) (plain _ (s .fits .z) (subst (λ (z : ℤ). ltZ z (pos 0) ≡ false) e (c .before .if1 .left)))
+
+print-number-requires-2 : tie.Need-print-number-requires-2
+print-number-requires-2 c κs = search needs
 
 returns : tie.Need-returns
 returns c = search needs
@@ -77,12 +78,12 @@ print-signed-spec =
     tie.close
     (tie.spec
     cast-n
-    slice-aggregate-print-text
-    print-text-requires
-    sub-print-decimal
-    cast-print-decimal
-    print-decimal-requires
-    cast-print-decimal-2
-    print-decimal-requires-2
+    slice-aggregate-print-number
+    sub-print-number
+    cast-print-number
+    print-number-requires
+    slice-aggregate-print-number-2
+    cast-print-number-2
+    print-number-requires-2
     returns
     returns-2)

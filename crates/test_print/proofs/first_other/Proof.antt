@@ -6,8 +6,8 @@ use native.Mathlib.Decide.{ℕ-discrete}
 use native.Mathlib.Omega.{arith}
 use borrow.Author.Needs.{needs}
 use lib.ListN.{length, getD}
-use Rattle.test_figures.proofs.first_other.Statement.{statement}
-use Rattle.test_figures.proofs.first_other.Tie as tie
+use Rattle.test_print.proofs.first_other.Statement.{statement}
+use Rattle.test_print.proofs.first_other.Tie as tie
 
 abbrev Inv-loop : tie.InvT-loop
 Inv-loop words w i₀ i = (i ≤ length words) × ((j : ℕ) → j < i → getD words j 0 ≡ w)
