@@ -4,13 +4,11 @@ use mathlib.Core.Bool.{Bool, true, false}
 use mathlib.Core.List.{List, [], _∷_, _++_, append-assoc, append-nil}
 use Prim.Native.Nat.{ℕ, _+_, _-_, _*_, _%_, _<_, _≤_}
 use native.Mathlib.Nat.{add-zero}
-use native.Mathlib.Numerals.{add-one}
 use native.Mathlib.Omega.{arith}
-use lib.ListN.{length, take, drop, getD, set, length-append, length-set, length-take, length-drop, take-append-drop}
-use lib.Seq.{length-take-le, take-suc-set, take-add, getD-drop, drop-set-lt, drop-drop}
-use Rattle.laws.specs.Choice.{if_then_else_, _<?_}
+use lib.ListN.{length, take, drop, getD, length-take, length-drop, take-append-drop}
+use lib.Seq.{take-add, getD-drop}
 use Rattle.kinds.specs.Rule.{turn, major, minor}
-use Rattle.answers.specs.Refusals.{Answer, given, refusal}
+use Rattle.answers.specs.Refusals.{Answer, given}
 use Rattle.places.specs.PlaceCalls.{placeAnswer}
 use Rattle.kinds.proofs.Digits.{major-lt, minor-lt}
 use Rattle.kinds.proofs.Table.{layoutAt, sane}

@@ -9,7 +9,7 @@ use Rattle.answers.specs.Refusals.{Answer, given, refusal, after}
 use Rattle.buffers.specs.Buffers.{wordsNeeded}
 use Rattle.step.specs.Step.{entryIn, added}
 use Rattle.run.specs.declared.Run.{Run}
-use Rattle.run.specs.Runs.{usedOf, fedRun}
+use Rattle.run.specs.Runs.{kindIn, usedOf, fedRun}
 use Rattle.run.specs.RunCalls.{feedAnswer}
 
 -- a block: an A and a B buffer
@@ -55,4 +55,4 @@ contributions kind signs mode row column (x ∷ xs) = added kind signs mode (x .
 
 -- the sum that a run holds at a place of D, as a signed number
 unfoldable pub sumAt : Run → (row column : ℕ) → ℤ
-sumAt run row column = int32 (entryIn (run .kind .0) 2 (usedOf run) row column)
+sumAt run row column = int32 (entryIn (kindIn run) 2 (usedOf run) row column)

@@ -7,7 +7,7 @@ use Rattle.answers.specs.Tests.{Test, over, reaches, differs, either}
 use Rattle.answers.specs.Calls.{Line, _when_, _at_when_, _then_, first, Call}
 use Rattle.buffers.specs.Buffers.{wordsNeeded}
 use Rattle.step.specs.StepCalls.{unready, selectorRefusals}
-use Rattle.run.specs.Runs.{openedRun, fedRun, usedOf}
+use Rattle.run.specs.Runs.{kindIn, signsIn, modeIn, openedRun, fedRun, usedOf}
 use Rattle.run.specs.declared.Run.{Run}
 
 -- at most 4,096 blocks
@@ -20,7 +20,7 @@ fullRun run = reaches (run .blocks) maxBlocks
 
 -- 10: a run's kind is not arithmetic (1 to 5), its selectors break 4, or its count is over 4,096
 abbrev pub badRun : Run → Test
-badRun run = either (unready (run .kind .0) (run .signs .0) (run .mode .0)) (over (run .blocks) maxBlocks)
+badRun run = either (unready (kindIn run) (signsIn run) (modeIn run)) (over (run .blocks) maxBlocks)
 
 -- by the lengths of the buffers
 abbrev pub openRefusals : (kind signs mode c : ℕ) → List Line
@@ -30,12 +30,12 @@ abbrev pub feedRefusals : Run → (a b : ℕ) → List Line
 feedRefusals run a b =
     10 when badRun run
     ∷ 9 when fullRun run
-    ∷ 5 at 0 when differs a (wordsNeeded (run .kind .0) 0)
-    ∷ 5 at 1 when differs b (wordsNeeded (run .kind .0) 1)
+    ∷ 5 at 0 when differs a (wordsNeeded (kindIn run) 0)
+    ∷ 5 at 1 when differs b (wordsNeeded (kindIn run) 1)
     ∷ []
 
 abbrev pub readRefusals : Run → (d : ℕ) → List Line
-readRefusals run d = 10 when badRun run ∷ 5 at 0 when differs d (wordsNeeded (run .kind .0) 2) ∷ []
+readRefusals run d = 10 when badRun run ∷ 5 at 0 when differs d (wordsNeeded (kindIn run) 2) ∷ []
 
 abbrev pub openCall : (kind signs mode : ℕ) (c : List ℕ) → Call Run
 openCall kind signs mode c = record { refusals = openRefusals kind signs mode (length c); gives = openedRun kind signs mode c }

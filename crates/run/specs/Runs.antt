@@ -12,6 +12,15 @@ abbrev pub runOf : (kind signs mode blocks : ℕ) → List ℕ → Run
 runOf kind signs mode blocks sums =
     record { kind = record { 0 = kind }; signs = record { 0 = signs }; mode = record { 0 = mode }; blocks = blocks; sums = sums }
 
+abbrev pub kindIn : Run → ℕ
+kindIn run = run .kind .0
+
+abbrev pub signsIn : Run → ℕ
+signsIn run = run .signs .0
+
+abbrev pub modeIn : Run → ℕ
+modeIn run = run .mode .0
+
 unfoldable pub zeros : List ℕ
 zeros = tab 128 (λ i. 0)
 
@@ -20,7 +29,7 @@ unfoldable pub withUsed : (used sums : List ℕ) → List ℕ
 withUsed used sums = used ++ drop (length used) sums
 
 unfoldable pub usedOf : Run → List ℕ
-usedOf run = take (wordsNeeded (run .kind .0) 2) (run .sums)
+usedOf run = take (wordsNeeded (kindIn run) 2) (run .sums)
 
 -- An accepted opening makes C's words the sums and the number 0; unused sums are 0.
 unfoldable pub openedRun : (kind signs mode : ℕ) → (c : List ℕ) → Run
@@ -33,5 +42,5 @@ zeroRun = runOf 0 0 0 0 zeros
 -- Each accepted feed makes the step's D, with the old sums as C, the new sums and adds 1 to the number.
 unfoldable pub fedRun : Run → (a b : List ℕ) → Run
 fedRun run a b =
-    runOf (run .kind .0) (run .signs .0) (run .mode .0) (run .blocks + 1)
-    (withUsed (stepped (run .kind .0) (run .signs .0) (run .mode .0) a b (usedOf run)) (run .sums))
+    runOf (kindIn run) (signsIn run) (modeIn run) (run .blocks + 1)
+    (withUsed (stepped (kindIn run) (signsIn run) (modeIn run) a b (usedOf run)) (run .sums))

@@ -1,10 +1,8 @@
 -- The kit's digits are the number's decimal. Assumes nothing.
 use borrow.Author.Needs.{needs}
-use mathlib.Core.Path.{_≡_, ap, _∙_}
-use mathlib.Core.List.{List}
+use mathlib.Core.Path.{ap, _∙_}
 use native.Mathlib.Omega.{arith}
-use denote.Ref.{now}
-use lib.ListN.{length, take}
+use lib.ListN.{length}
 use Rattle.text.specs.Text.{decimal}
 use Rattle.text.proofs.Laws.{fewest-is, few-digits}
 use Rattle.text.proofs.put_decimal.Statement.{statement}

@@ -6,7 +6,7 @@ use Rattle.answers.specs.Contracts.{Meets}
 use Rattle.answers.proofs.Codes.{left-given, left-refused}
 use Rattle.run.specs.declared.Run.{Run}
 use Rattle.run.specs.RunCalls.{feedCall}
-use Rattle.wazimroot.specs.Words.{runIn, wordsOf}
+use Rattle.words.specs.Words.{runIn, wordsOf}
 use Rattle.wazimroot.proofs.wz_feed.Statement.{statement}
 use Rattle.wazimroot.proofs.wz_feed.Tie as tie
 

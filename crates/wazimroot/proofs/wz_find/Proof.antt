@@ -3,7 +3,7 @@ use borrow.Author.Needs.{needs}
 use mathlib.Core.Path.{ap}
 use Rattle.answers.proofs.Codes.{reply-given, reply-refused}
 use Rattle.places.specs.PlaceCalls.{toldHolder}
-use Rattle.wazimroot.specs.Words.{pairOf}
+use Rattle.words.specs.Words.{pairOf}
 use Rattle.wazimroot.proofs.wz_find.Statement.{statement}
 use Rattle.wazimroot.proofs.wz_find.Tie as tie
 

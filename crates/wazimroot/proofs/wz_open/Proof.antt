@@ -1,6 +1,6 @@
 -- The run's words are those of the run that was opened, or of the zero run. Assumes nothing.
 use borrow.Author.Needs.{needs}
-use Rattle.wazimroot.specs.Words.{wordsOf}
+use Rattle.words.specs.Words.{wordsOf}
 use Rattle.answers.proofs.Codes.{coded-as}
 use Rattle.wazimroot.proofs.wz_open.Statement.{statement}
 use Rattle.wazimroot.proofs.wz_open.Tie as tie

@@ -2,9 +2,9 @@
 use borrow.Author.Needs.{needs}
 use native.Mathlib.Omega.{arith}
 use denote.Ref.{now}
-use Rattle.wazimroot.proofs.Laws.{four}
-use Rattle.wazimroot.proofs.put_head.Statement.{statement}
-use Rattle.wazimroot.proofs.put_head.Tie as tie
+use Rattle.words.proofs.Laws.{four}
+use Rattle.words.proofs.put_head.Statement.{statement}
+use Rattle.words.proofs.put_head.Tie as tie
 
 slice-write-words : tie.Need-slice-write-words
 slice-write-words c = search needs

@@ -6,7 +6,7 @@ use native.Mathlib.Omega.{arith}
 use lib.ListN.{length, set, take, drop, length-drop, drop-of-length-le}
 use lib.Seq.{length-take-le, take-all, drop-at}
 use Rattle.run.specs.declared.Run.{Run}
-use Rattle.wazimroot.specs.Words.{wordsOf}
+use Rattle.words.specs.Words.{wordsOf}
 
 -- a call that writes two numbers
 pub pair : (xs : List ℕ) (a b : ℕ) → length xs ≡ 2 → set (set xs 0 a) 1 b ≡ a ∷ b ∷ []

@@ -4,8 +4,8 @@ use mathlib.Core.Path.{sym, ap, _∙_}
 use Rattle.answers.specs.Refusals.{told}
 use Rattle.answers.specs.declared.Verdict.{Verdict}
 use Rattle.answers.specs.Contracts.{codeOf}
-use Rattle.wazimroot.proofs.code_of.Statement.{statement}
-use Rattle.wazimroot.proofs.code_of.Tie as tie
+use Rattle.words.proofs.code_of.Statement.{statement}
+use Rattle.words.proofs.code_of.Tie as tie
 
 enum-told : tie.Need-enum-told
 enum-told c = search needs

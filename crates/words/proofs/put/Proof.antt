@@ -6,10 +6,10 @@ use mathlib.Core.List.{List, _∷_, _++_}
 use Prim.Native.Nat.{ℕ}
 use denote.Ref.{now}
 use lib.ListN.{length, take, drop}
-use Rattle.wazimroot.specs.Words.{wordsOf}
-use Rattle.wazimroot.proofs.Laws.{words-long, length-lent, sums-behind}
-use Rattle.wazimroot.proofs.put.Statement.{statement}
-use Rattle.wazimroot.proofs.put.Tie as tie
+use Rattle.words.specs.Words.{wordsOf}
+use Rattle.words.proofs.Laws.{words-long, length-lent, sums-behind}
+use Rattle.words.proofs.put.Statement.{statement}
+use Rattle.words.proofs.put.Tie as tie
 
 -- a run has 128 sums
 long : (s : tie.Start) → length (s .args .run .sums) ≡ 128

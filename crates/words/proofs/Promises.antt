@@ -15,7 +15,7 @@ use Rattle.run.specs.Runs.{openedRun, zeroRun, fedRun, usedOf}
 use Rattle.run.specs.RunCalls.{openAnswer, feedAnswer, readAnswer}
 use Rattle.run.specs.Blocks.{Block, fedBy, fedAll}
 use Rattle.answers.specs.Contracts.{codeOf}
-use Rattle.wazimroot.specs.Words.{runIn, wordsOf, openedWords, readWords, fedAllWords}
+use Rattle.words.specs.Words.{runIn, wordsOf, openedWords, readWords, fedAllWords}
 
 -- The run in a run's words is the run,
 pub run-back : (run : Run) → runIn (wordsOf run) ≡ run

@@ -1,9 +1,9 @@
 -- A buffer of two, both written. Assumes nothing.
 use borrow.Author.Needs.{needs}
 use denote.Ref.{now}
-use Rattle.wazimroot.proofs.Laws.{pair}
-use Rattle.wazimroot.proofs.put_pair.Statement.{statement}
-use Rattle.wazimroot.proofs.put_pair.Tie as tie
+use Rattle.words.proofs.Laws.{pair}
+use Rattle.words.proofs.put_pair.Statement.{statement}
+use Rattle.words.proofs.put_pair.Tie as tie
 
 slice-write-out : tie.Need-slice-write-out
 slice-write-out c = search needs

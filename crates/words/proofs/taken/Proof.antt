@@ -6,10 +6,10 @@ use Prim.Native.Nat.{ℕ}
 use denote.Ref.{now}
 use lib.ListN.{getD}
 use Rattle.run.specs.Runs.{runOf}
-use Rattle.wazimroot.specs.Words.{runIn}
-use Rattle.wazimroot.proofs.Laws.{lent}
-use Rattle.wazimroot.proofs.taken.Statement.{statement}
-use Rattle.wazimroot.proofs.taken.Tie as tie
+use Rattle.words.specs.Words.{runIn}
+use Rattle.words.proofs.Laws.{lent}
+use Rattle.words.proofs.taken.Statement.{statement}
+use Rattle.words.proofs.taken.Tie as tie
 
 sub-copy : tie.Need-sub-copy
 sub-copy c = search needs

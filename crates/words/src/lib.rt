@@ -1,0 +1,76 @@
+// An answer and a run as the words that C gets: the code of a verdict, a pair, and the 132 words of a run.
+ghost use mathlib.Core.Path.{_≡_};
+ghost use Prim.Native.Nat.{_+_, _*_, _^_};
+ghost use mathlib.Core.List.{[], _∷_};
+ghost use lib.ListN.{length, drop};
+ghost use Rattle.answers.specs.Refusals.{numberOf, detailOf, told};
+ghost use Rattle.answers.specs.Contracts.{codeOf};
+ghost use Rattle.words.specs.Words.{runIn, wordsOf};
+use answers::Refusal;
+use answers::Verdict;
+use kinds::Kind;
+use kinds::Mode;
+use kinds::Signs;
+use run::Run;
+
+// A refusal's number, and its detail in the high half.
+pub fn code(refusal: Refusal) -> u64
+    ensures { λ r. ⌜ r ≡ numberOf refusal + detailOf refusal * 2 ^ 32 ⌝ }
+{
+    refusal.number() as u64 + refusal.detail() as u64 * 4294967296
+}
+
+pub fn code_of(verdict: Verdict) -> u64
+    ensures { λ r. ⌜ r ≡ codeOf (told verdict) ⌝ }
+{
+    match verdict {
+        Verdict::Accepted => 0,
+        Verdict::Refused(refusal) => code(refusal),
+    }
+}
+
+pub fn put_pair(out: &mut [u32], first: u32, second: u32)
+    requires { ⌜ length (now out) ≡ 2 ⌝ }
+    ensures { λ _. ⌜ now (out .exit) ≡ first ∷ second ∷ [] ⌝ }
+{
+    out[0] = first;
+    out[1] = second;
+}
+
+// A run out of its words.
+pub fn taken(words: &[u32]) -> Run
+    requires { ⌜ length (now words) ≡ 132 ⌝ }
+    ensures { λ r. ⌜ r ≡ runIn (now (words .entry)) ⌝ }
+{
+    let mut sums: [u32; 128] = [0; 128];
+    buffers::copy(&words[4..132], &mut sums);
+    Run {
+        kind: Kind(words[0]),
+        signs: Signs(words[1]),
+        mode: Mode(words[2]),
+        blocks: words[3],
+        sums,
+    }
+}
+
+// A run's first four words.
+fn put_head(run: Run, words: &mut [u32])
+    requires { ⌜ length (now words) ≡ 132 ⌝ }
+    ensures { λ _. ⌜ now (words .exit) ≡ run .kind .0 ∷ run .signs .0 ∷ run .mode .0 ∷ run .blocks ∷ drop 4
+        (now (words .entry)) ⌝ }
+{
+    words[0] = run.kind.0;
+    words[1] = run.signs.0;
+    words[2] = run.mode.0;
+    words[3] = run.blocks;
+}
+
+// A run into its words.
+pub fn put(run: Run, words: &mut [u32])
+    requires { ⌜ length (now words) ≡ 132 ⌝ }
+    ensures { λ _. ⌜ now (words .exit) ≡ wordsOf run ⌝ }
+{
+    let sums = run.sums;
+    buffers::copy(&sums, &mut words[4..132]);
+    put_head(run, words);
+}
