@@ -4,16 +4,25 @@
 -- Assumes nothing.
 use mathlib.Core.Path.{_≡_, refl}
 use mathlib.Core.Logic.{_↔_}
+use mathlib.Core.Bool.{Bool, true, false, not, _||_}
 use mathlib.Core.List.{List, [], _∷_}
-use Prim.Native.Nat.{ℕ}
+use Prim.Native.Nat.{ℕ, suc, _-_, _≤_}
+use native.Mathlib.Omega.{arith}
+use lib.Dec.{T}
 use lib.IntN.{ℤ}
 use Rattle.answers.specs.Refusals.{Answer, given, refusal, told}
+use Rattle.answers.specs.Tests.{Test, is, within, Says, holds}
 use Rattle.answers.specs.Calls.{Call, numbersOf, Gives, NoneSays}
 use Rattle.answers.specs.Contracts.{Meets, Replies, Coded}
 use Rattle.answers.specs.declared.Refusal.{Refusal}
 use Rattle.answers.specs.declared.Verdict.{Verdict}
 use Rattle.answers.specs.declared.Verdict.the-variants.{Accepted, Refused}
+use Rattle.answers.proofs.Words.{says}
 use Rattle.answers.proofs.Demand1 as every
+use Rattle.laws.proofs.Every.{all, all-at}
+use Rattle.kinds.specs.Kinds.{kinds, lineAt, entryOf, oneBitElement, int8Element, int4Element, oneBit, integer, arithmetic}
+use Rattle.kinds.specs.declared.Entry.{Entry}
+use Rattle.kinds.proofs.Table.{where-so}
 use Rattle.places.specs.PlaceCalls.{placeCall, findCall}
 use Rattle.unpack.specs.UnpackCall.{unpackCall}
 use Rattle.pack.specs.PackCall.{packCall}
@@ -101,3 +110,40 @@ module _ (run : Run) (a b d : List ℕ) where
 pub scale-order : (size side byteId threadId : ℕ) (metadata : List ℕ) (output : List ℤ)
     → numbersOf (scaleCall size side byteId threadId metadata output .refusals) ≡ 8 ∷ 8 ∷ 8 ∷ 8 ∷ 5 ∷ 5 ∷ []
 scale-order size side byteId threadId metadata output = refl
+
+-- 'Kinds 1 to 5 are the arithmetic kinds', kind 1 being one-bit and 2 to 5 integer: by these 3, 4 and 10 are given. The table's elements say so, by a
+-- test that antt computes over every line.
+module _ (t : Entry → Test) (low high : ℕ) where
+  abbrev inside : ℕ → Bool
+  inside j = not (holds (t (lineAt j))) || holds (within (suc j) low high)
+
+  abbrev outside : ℕ → Bool
+  outside j = not (holds (within (suc j) low high)) || holds (t (lineAt j))
+
+  kinds-are : T (all kinds inside) → T (all kinds outside) → (k : ℕ) → 1 ≤ k → k ≤ kinds → Says (t (entryOf k)) ↔ ((low ≤ k) × (k ≤ high))
+  kinds-are i o k one known = (there, back)
+    where
+      is-true : (b : Bool) → T b → b ≡ true
+      is-true true h = refl
+      is-true false h = absurd h
+
+      there : Says (t (entryOf k)) → (low ≤ k) × (k ≤ high)
+      there p =
+          let w = within (suc (k - 1)) low high in
+          let h = says w .0 (is-true (holds w) (where-so (holds (t (entryOf k))) (holds w) (says (t (entryOf k)) .1 p) (all-at kinds inside i (k - 1) (omega arith)))) in
+          (omega (arith, h .0), omega (arith, h .1))
+
+      back : (low ≤ k) × (k ≤ high) → Says (t (entryOf k))
+      back p =
+          let w = within (suc (k - 1)) low high in
+          let h : Says w = (omega (arith, p .0), omega (arith, p .1)) in
+          says (t (entryOf k)) .0 (is-true (holds (t (entryOf k))) (where-so (holds w) (holds (t (entryOf k))) (says w .1 h) (all-at kinds outside o (k - 1) (omega arith))))
+
+pub arithmetic-kinds : (k : ℕ) → 1 ≤ k → k ≤ 10 → Says (arithmetic k) ↔ ((1 ≤ k) × (k ≤ 5))
+arithmetic-kinds = kinds-are (λ e. within (e .element) oneBitElement int4Element) 1 5 tt tt
+
+pub one-bit-kind : (k : ℕ) → 1 ≤ k → k ≤ 10 → Says (oneBit k) ↔ ((1 ≤ k) × (k ≤ 1))
+one-bit-kind = kinds-are (λ e. is (e .element) oneBitElement) 1 1 tt tt
+
+pub integer-kinds : (k : ℕ) → 1 ≤ k → k ≤ 10 → Says (integer k) ↔ ((2 ≤ k) × (k ≤ 5))
+integer-kinds = kinds-are (λ e. within (e .element) int8Element int4Element) 2 5 tt tt
