@@ -2,7 +2,7 @@
 ghost use mathlib.Core.Path.{_≡_};
 ghost use Prim.Native.Nat.{_<_, _≤_};
 ghost use Rattle.answers.specs.Contracts.{Replies};
-ghost use Rattle.kinds.specs.Kinds.{kinds, entryOf, roleOf};
+ghost use Rattle.kinds.specs.Kinds.{kinds, named, entryOf, roleOf};
 ghost use Rattle.kinds.specs.Rule.{spread, sideOf, layoutOf};
 ghost use Rattle.kinds.specs.Workers.{toldLayout, layoutCall, layoutsOf, Laid};
 use answers::Refusal;
@@ -59,7 +59,7 @@ impl Lane {
 }
 
 // A line of the kinds table: m, n, k; what an element of A and B is; bits of an A or B element, of a C or D element; words per lane of A, of
-// B, of C or D. The numbers are narrow, since a look at one line costs a copy of the table.
+// B, of C or D.
 pub struct Line(
     pub u16,
     pub u16,
@@ -72,18 +72,27 @@ pub struct Line(
     pub u16,
 );
 
-const KINDS: [Line; Kind::COUNT as usize] = [
-    Line(8, 8, 128, Entry::ONE_BIT, 1, 32, 1, 1, 2),
-    Line(16, 8, 16, Entry::INT8, 8, 32, 2, 1, 4),
-    Line(16, 8, 32, Entry::INT8, 8, 32, 4, 2, 4),
-    Line(16, 8, 32, Entry::INT4, 4, 32, 2, 1, 4),
-    Line(16, 8, 64, Entry::INT4, 4, 32, 4, 2, 4),
-    Line(16, 8, 8, Entry::F16, 16, 32, 2, 1, 4),
-    Line(16, 8, 8, Entry::F16, 16, 16, 2, 1, 2),
-    Line(16, 8, 8, Entry::TF32, 32, 32, 4, 2, 4),
-    Line(16, 8, 8, Entry::F64, 64, 64, 8, 4, 8),
-    Line(8, 8, 4, Entry::F64, 64, 64, 2, 2, 4),
-];
+impl Line {
+    // The line of a kind.
+    fn of(kind: Kind) -> Line
+        requires { ⌜ (1 ≤ kind .0) × (kind .0 ≤ kinds) ⌝ }
+        ensures { λ r. ⌜ named r ≡ entryOf (kind .0) ⌝ }
+    {
+        let k = kind.0;
+        match k {
+            1 => Line(8, 8, 128, Entry::ONE_BIT, 1, 32, 1, 1, 2),
+            2 => Line(16, 8, 16, Entry::INT8, 8, 32, 2, 1, 4),
+            3 => Line(16, 8, 32, Entry::INT8, 8, 32, 4, 2, 4),
+            4 => Line(16, 8, 32, Entry::INT4, 4, 32, 2, 1, 4),
+            5 => Line(16, 8, 64, Entry::INT4, 4, 32, 4, 2, 4),
+            6 => Line(16, 8, 8, Entry::F16, 16, 32, 2, 1, 4),
+            7 => Line(16, 8, 8, Entry::F16, 16, 16, 2, 1, 2),
+            8 => Line(16, 8, 8, Entry::TF32, 32, 32, 4, 2, 4),
+            9 => Line(16, 8, 8, Entry::F64, 64, 64, 8, 4, 8),
+            _ => Line(8, 8, 4, Entry::F64, 64, 64, 2, 2, 4),
+        }
+    }
+}
 
 // The same with its columns named.
 pub struct Entry {
@@ -112,12 +121,11 @@ impl Entry {
 
     pub const F64: u16 = 6;
 
-    // The line of a kind.
     pub fn of(kind: Kind) -> Entry
         requires { ⌜ (1 ≤ kind .0) × (kind .0 ≤ kinds) ⌝ }
         ensures { λ r. ⌜ r ≡ entryOf (kind .0) ⌝ }
     {
-        let line = KINDS[(kind.0 - 1) as usize];
+        let line = Line::of(kind);
         Entry {
             m: line.0,
             n: line.1,

@@ -34,6 +34,9 @@ put-put {t} {u} {xs} {ys} {zs} {a} {b} {c} p q = record {
         let n : c ≡ b + (c - b) = omega arith in
         ap (λ (m : ℕ). drop m ys) n ∙ sym (drop-drop (c - b) b ys) ∙ ap (drop (c - b)) e ∙ drop-drop (c - b) b xs ∙ ap (λ (m : ℕ). drop m xs) (sym n)
 
+pub put-same : {t u xs ys : List ℕ} {a b : ℕ} → t ≡ u → Put u xs a ys b → Put t xs a ys b
+put-same {t} {u} {xs} {ys} {a} {b} e = subst (λ (t : List ℕ). Put t xs a ys b) (sym e)
+
 pub put-ends : {t xs ys : List ℕ} {a b : ℕ} → Put t xs a ys b → (n : ℕ) → length t ≤ n → b ≤ a + n
 put-ends p n h = omega arith
 
@@ -77,6 +80,15 @@ fewest-is (suc (suc k)) (suc most) n f h =
     let ten : 0 < 10 = omega arith in
     let less : Fewest 10 1 (n / 10) (suc k) = (omega arith, div-lt-iff-lt-mul ten .1 high, λ m. subst (λ (j : ℕ). 10 ^ j ≤ n / 10) (omega arith) (le-div-iff-mul-le ten .1 deep)) in
     simp (le-ltb n 10 much) (ap₂ (λ (xs : List ℕ) (d : ℕ). xs ++ (d ∷ [])) (fewest-is (suc k) most (n / 10) less (le-of-suc-le-suc h)) (digit-is (n % 10) (mod-lt n (omega arith))))
+
+-- of one digit, and of two
+pub one-digit : (most n : ℕ) → n < 10 → decimalIn (suc most) n ≡ digit n ∷ []
+unfolding decimalIn
+one-digit most n h = rw (lt-ltb n 10 h) refl
+
+pub two-digits : (most n : ℕ) → 10 ≤ n → n < 100 → decimalIn (suc (suc most)) n ≡ digit (n / 10) ∷ digit (n % 10) ∷ []
+unfolding decimalIn
+two-digits most n l h = simp (le-ltb n 10 l) (ap (λ (xs : List ℕ). xs ++ (digit (n % 10) ∷ [])) (one-digit most (n / 10) (omega arith)))
 
 -- and a number below a power of ten has no more digits
 pub decimal-length : (k most n : ℕ) → n < 10 ^ suc k → length (decimalIn most n) ≤ suc k

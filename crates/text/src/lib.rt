@@ -1,6 +1,6 @@
 // Bytes put into a buffer: a text, and a number in decimal. Each function puts into out at a place, and answers the place after it.
 ghost use mathlib.Core.List.{[], _∷_};
-ghost use Prim.Native.Nat.{_+_, _≤_};
+ghost use Prim.Native.Nat.{_+_, _<_, _≤_};
 ghost use lib.ListN.{length};
 ghost use Rattle.text.specs.Text.{decimal, Put};
 
@@ -24,10 +24,25 @@ pub fn put_text(out: &mut [u8], at: usize, text: &[u8]) -> usize
     at + i
 }
 
+// A number of one digit or two, as most are.
+fn put_short(out: &mut [u8], at: usize, n: u64) -> usize
+    requires { ⌜ (n < 100) × (at + length (decimal n) ≤ length (now out)) ⌝ }
+    ensures { λ r. ⌜ Put (decimal n) (now (out .entry)) at (now (out .exit)) r ⌝ }
+{
+    if n < 10 {
+        return put(out, at, b'0' + n as u8);
+    }
+    let after_tens = put(out, at, b'0' + (n / 10) as u8);
+    put(out, after_tens, b'0' + (n % 10) as u8)
+}
+
 pub fn put_decimal(out: &mut [u8], at: usize, n: u64) -> usize
     requires { ⌜ at + length (decimal n) ≤ length (now out) ⌝ }
     ensures { λ r. ⌜ Put (decimal n) (now (out .entry)) at (now (out .exit)) r ⌝ }
 {
+    if n < 100 {
+        return put_short(out, at, n);
+    }
     let mut digits = [0u8; 20];
     let count = io::decimal(n, &mut digits);
     put_text(out, at, &digits[..count])
