@@ -3,7 +3,7 @@ ghost use mathlib.Core.Path.{_≡_};
 ghost use Prim.Native.Nat.{_+_, _*_, _<_, _≤_};
 ghost use lib.ListN.{length};
 ghost use Rattle.laws.specs.Fields.{field};
-ghost use Rattle.kinds.specs.Kinds.{kinds, lanes};
+ghost use Rattle.kinds.specs.Kinds.{lanes, entryOf};
 ghost use Rattle.kinds.specs.Rule.{rowsOf, columnsOf};
 ghost use Rattle.kinds.specs.Workers.{Laid};
 ghost use Rattle.buffers.specs.Buffers.{wordsNeeded};
@@ -31,7 +31,7 @@ impl Quad {
     }
 }
 
-// The words that A, B and C of a kind need.
+// The words that A, B and C of a kind need, by its line.
 pub struct Lengths {
     pub a: usize,
     pub b: usize,
@@ -39,16 +39,15 @@ pub struct Lengths {
 }
 
 impl Lengths {
-    pub fn of(kind: Kind) -> Lengths
-        requires { ⌜ (1 ≤ kind .0) × (kind .0 ≤ kinds) ⌝ }
+    pub fn of(kind: Kind, line: Entry) -> Lengths
+        requires { ⌜ line ≡ entryOf (kind .0) ⌝ }
         ensures { λ r. ⌜ (r .a ≡ wordsNeeded (kind .0) 0) × (r .b ≡ wordsNeeded (kind .0) 1) ×
             (r .c ≡ wordsNeeded (kind .0) 2) ⌝ }
     {
-        let e = Entry::of(kind);
         Lengths {
-            a: Lane::COUNT * e.a as usize,
-            b: Lane::COUNT * e.b as usize,
-            c: Lane::COUNT * e.c as usize,
+            a: Lane::COUNT * line.a as usize,
+            b: Lane::COUNT * line.b as usize,
+            c: Lane::COUNT * line.c as usize,
         }
     }
 }

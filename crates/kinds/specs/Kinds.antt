@@ -2,6 +2,7 @@
 use Prim.Native.Nat.{ℕ, _-_, _*_, _/_, _≤_}
 use mathlib.Core.List.{List, [], _∷_}
 use lib.ListN.{getD}
+use Rattle.laws.specs.Choice.{if_then_else_, _=?_}
 use Rattle.answers.specs.Tests.{Test, is, within, Says}
 use Rattle.kinds.specs.declared.Line.{Line}
 use Rattle.kinds.specs.declared.Entry.{Entry}
@@ -50,37 +51,46 @@ int4Element = 3
 abbrev pub f16Element : ℕ
 f16Element = 4
 
+-- the same with f16 sums
+abbrev pub f16SumsElement : ℕ
+f16SumsElement = 5
+
 abbrev pub tf32Element : ℕ
-tf32Element = 5
+tf32Element = 6
 
 abbrev pub f64Element : ℕ
-f64Element = 6
+f64Element = 7
 
--- m, n, k of the shape and the element; bits of an A or B element, of a C or D element; words per lane of A, of B, of C or D
-abbrev pub line : (m n k element bits sums a b c : ℕ) → Line
-line m n k element bits sums a b c = record { 0 = m; 1 = n; 2 = k; 3 = element; 4 = bits; 5 = sums; 6 = a; 7 = b; 8 = c }
+-- m, n, k of the shape and the element; bits of an A or B element; words per lane of A, of B, of C or D
+abbrev pub line : (m n k element bits a b c : ℕ) → Line
+line m n k element bits a b c = record { 0 = m; 1 = n; 2 = k; 3 = element; 4 = bits; 5 = a; 6 = b; 7 = c }
 
--- The table, a line a kind. C/D elements have 32 bits, except 16 in kind 7 and 64 in kinds 9 and 10.
+-- The table, a line a kind.
 abbrev pub table : List Line
 table =
-    line 8 8 128 oneBitElement 1 32 1 1 2
-    ∷ line 16 8 16 int8Element 8 32 2 1 4
-    ∷ line 16 8 32 int8Element 8 32 4 2 4
-    ∷ line 16 8 32 int4Element 4 32 2 1 4
-    ∷ line 16 8 64 int4Element 4 32 4 2 4
-    ∷ line 16 8 8 f16Element 16 32 2 1 4
-    ∷ line 16 8 8 f16Element 16 16 2 1 2
-    ∷ line 16 8 8 tf32Element 32 32 4 2 4
-    ∷ line 16 8 8 f64Element 64 64 8 4 8
-    ∷ line 8 8 4 f64Element 64 64 2 2 4
+    line 8 8 128 oneBitElement 1 1 1 2
+    ∷ line 16 8 16 int8Element 8 2 1 4
+    ∷ line 16 8 32 int8Element 8 4 2 4
+    ∷ line 16 8 32 int4Element 4 2 1 4
+    ∷ line 16 8 64 int4Element 4 4 2 4
+    ∷ line 16 8 8 f16Element 16 2 1 4
+    ∷ line 16 8 8 f16SumsElement 16 2 1 2
+    ∷ line 16 8 8 tf32Element 32 4 2 4
+    ∷ line 16 8 8 f64Element 64 8 4 8
+    ∷ line 8 8 4 f64Element 64 2 2 4
     ∷ []
+
+-- C/D elements have 32 bits, except 16 in kind 7 and 64 in kinds 9 and 10.
+abbrev pub sumBits : (element : ℕ) → ℕ
+sumBits e = if e =? f16SumsElement then 16 else if e =? f64Element then 64 else 32
 
 -- the columns by name; the line of a kind
 abbrev pub named : Line → Entry
-named l = record { m = l .0; n = l .1; k = l .2; element = l .3; bits = l .4; sums = l .5; a = l .6; b = l .7; c = l .8 }
+named l =
+    record { m = l .0; n = l .1; k = l .2; element = l .3; bits = l .4; sums = sumBits (l .3); a = l .5; b = l .6; c = l .7 }
 
 abbrev pub lineAt : ℕ → Entry
-lineAt j = named (getD table j (line 0 0 0 0 0 0 0 0 0))
+lineAt j = named (getD table j (line 0 0 0 0 0 0 0 0))
 
 abbrev pub entryOf : ℕ → Entry
 entryOf k = lineAt (k - 1)

@@ -2,7 +2,7 @@
 ghost use mathlib.Core.Path.{_≡_};
 ghost use Prim.Native.Nat.{_<_, _≤_};
 ghost use Rattle.answers.specs.Contracts.{Replies};
-ghost use Rattle.kinds.specs.Kinds.{kinds, named, entryOf, roleOf};
+ghost use Rattle.kinds.specs.Kinds.{kinds, sumBits, entryOf, roleOf};
 ghost use Rattle.kinds.specs.Rule.{spread, sideOf, layoutOf};
 ghost use Rattle.kinds.specs.Workers.{toldLayout, layoutCall, layoutsOf, Laid};
 use answers::Refusal;
@@ -31,16 +31,6 @@ impl Kind {
     pub const COUNT: u32 = 10;
 }
 
-impl Kind {
-    // What an element of A and B is.
-    pub fn element(self) -> u16
-        requires { ⌜ (1 ≤ self .0) × (self .0 ≤ kinds) ⌝ }
-        ensures { λ r. ⌜ (r ≡ entryOf (self .0) .element) × (1 ≤ r) ⌝ }
-    {
-        Entry::of(self).element
-    }
-}
-
 impl Role {
     pub const A: u32 = 0;
 
@@ -58,10 +48,9 @@ impl Lane {
     pub const QUAD: usize = 4;
 }
 
-// A line of the kinds table: m, n, k; what an element of A and B is; bits of an A or B element, of a C or D element; words per lane of A, of
-// B, of C or D.
+// A line of the kinds table: m, n, k; what an element of A and B is, and its bits; words per lane of A, of B, of C or D. A look at one line
+// costs a copy of the table, and a copy goes by sixteen bytes: so many has a line.
 pub struct Line(
-    pub u16,
     pub u16,
     pub u16,
     pub u16,
@@ -72,29 +61,20 @@ pub struct Line(
     pub u16,
 );
 
-impl Line {
-    // The line of a kind.
-    fn of(kind: Kind) -> Line
-        requires { ⌜ (1 ≤ kind .0) × (kind .0 ≤ kinds) ⌝ }
-        ensures { λ r. ⌜ named r ≡ entryOf (kind .0) ⌝ }
-    {
-        let k = kind.0;
-        match k {
-            1 => Line(8, 8, 128, Entry::ONE_BIT, 1, 32, 1, 1, 2),
-            2 => Line(16, 8, 16, Entry::INT8, 8, 32, 2, 1, 4),
-            3 => Line(16, 8, 32, Entry::INT8, 8, 32, 4, 2, 4),
-            4 => Line(16, 8, 32, Entry::INT4, 4, 32, 2, 1, 4),
-            5 => Line(16, 8, 64, Entry::INT4, 4, 32, 4, 2, 4),
-            6 => Line(16, 8, 8, Entry::F16, 16, 32, 2, 1, 4),
-            7 => Line(16, 8, 8, Entry::F16, 16, 16, 2, 1, 2),
-            8 => Line(16, 8, 8, Entry::TF32, 32, 32, 4, 2, 4),
-            9 => Line(16, 8, 8, Entry::F64, 64, 64, 8, 4, 8),
-            _ => Line(8, 8, 4, Entry::F64, 64, 64, 2, 2, 4),
-        }
-    }
-}
+const KINDS: [Line; Kind::COUNT as usize] = [
+    Line(8, 8, 128, Entry::ONE_BIT, 1, 1, 1, 2),
+    Line(16, 8, 16, Entry::INT8, 8, 2, 1, 4),
+    Line(16, 8, 32, Entry::INT8, 8, 4, 2, 4),
+    Line(16, 8, 32, Entry::INT4, 4, 2, 1, 4),
+    Line(16, 8, 64, Entry::INT4, 4, 4, 2, 4),
+    Line(16, 8, 8, Entry::F16, 16, 2, 1, 4),
+    Line(16, 8, 8, Entry::F16_SUMS, 16, 2, 1, 2),
+    Line(16, 8, 8, Entry::TF32, 32, 4, 2, 4),
+    Line(16, 8, 8, Entry::F64, 64, 8, 4, 8),
+    Line(8, 8, 4, Entry::F64, 64, 2, 2, 4),
+];
 
-// The same with its columns named.
+// The same with its columns named, and the bits of a C or D element.
 pub struct Entry {
     pub m: u16,
     pub n: u16,
@@ -117,25 +97,43 @@ impl Entry {
 
     pub const F16: u16 = 4;
 
-    pub const TF32: u16 = 5;
+    // The same with f16 sums.
+    pub const F16_SUMS: u16 = 5;
 
-    pub const F64: u16 = 6;
+    pub const TF32: u16 = 6;
 
+    pub const F64: u16 = 7;
+
+    // The bits of a C or D element, by what an element of A and B is.
+    fn sum_bits(element: u16) -> u16
+        ensures { λ r. ⌜ r ≡ sumBits element ⌝ }
+    {
+        if element == Entry::F16_SUMS {
+            return 16;
+        }
+        if element == Entry::F64 {
+            return 64;
+        }
+        32
+    }
+
+    // The line of a kind.
     pub fn of(kind: Kind) -> Entry
         requires { ⌜ (1 ≤ kind .0) × (kind .0 ≤ kinds) ⌝ }
-        ensures { λ r. ⌜ r ≡ entryOf (kind .0) ⌝ }
+        ensures is { λ r. ⌜ r ≡ entryOf (kind .0) ⌝ }
+        ensures element { λ r. ⌜ (r .element ≡ entryOf (kind .0) .element) × (1 ≤ r .element) ⌝ }
     {
-        let line = Line::of(kind);
+        let line = KINDS[(kind.0 - 1) as usize];
         Entry {
             m: line.0,
             n: line.1,
             k: line.2,
             element: line.3,
             bits: line.4,
-            sums: line.5,
-            a: line.6,
-            b: line.7,
-            c: line.8,
+            sums: Entry::sum_bits(line.3),
+            a: line.5,
+            b: line.6,
+            c: line.7,
         }
     }
 }

@@ -3,8 +3,10 @@ ghost use mathlib.Core.Path.{_≡_};
 ghost use Prim.Native.Nat.{_<_};
 ghost use lib.ListN.{length};
 ghost use mathlib.Core.List.{[], _∷_};
-ghost use Rattle.answers.specs.Calls.{_when_};
+ghost use Rattle.answers.specs.Tests.{differs};
+ghost use Rattle.answers.specs.Calls.{_when_, _at_when_};
 ghost use Rattle.answers.specs.Contracts.{Meets, Judges};
+ghost use Rattle.kinds.specs.Kinds.{entryOf};
 ghost use Rattle.buffers.specs.Buffers.{wordsNeeded};
 ghost use Rattle.step.specs.Workers.{Ready};
 ghost use Rattle.run.specs.Runs.{openedRun, zeroRun, fedRun};
@@ -12,9 +14,11 @@ ghost use Rattle.run.specs.RunCalls.{maxBlocks, badRun, openRefusals, fe
 use answers::Refusal;
 use answers::Verdict;
 use buffers::Lengths;
+use kinds::Entry;
 use kinds::Kind;
 use kinds::Mode;
 use kinds::Signs;
+use step::Selected;
 
 pub struct Run {
     pub kind: Kind,
@@ -50,18 +54,25 @@ impl Run {
         }
     }
 
+    // Refusal 5 of C or D, by its length.
+    fn judge_sums(kind: Kind, line: Entry, sums: usize) -> Verdict
+        requires { ⌜ line ≡ entryOf (kind .0) ⌝ }
+        ensures { λ r. ⌜ Judges (5 at 0 when differs sums (wordsNeeded (kind .0) 2) ∷ []) r ⌝ }
+    {
+        if sums != Lengths::of(kind, line).c {
+            return Verdict::Refused(Refusal::WrongLength(0));
+        }
+        Verdict::Accepted
+    }
+
     // Refusals 1, 3, 4 and 5 of an opening.
     fn judge_open(kind: Kind, signs: Signs, mode: Mode, c: usize) -> Verdict
         ensures { λ r. ⌜ Judges (openRefusals (kind .0) (signs .0) (mode .0) c) r ⌝ }
     {
-        let verdict = step::judge(kind, signs, mode);
-        let Verdict::Accepted = verdict else {
-            return verdict;
-        };
-        if c != Lengths::of(kind).c {
-            return Verdict::Refused(Refusal::WrongLength(0));
+        match step::select(kind, signs, mode) {
+            Selected::As(line) => Run::judge_sums(kind, line, c),
+            Selected::Refused(x) => Verdict::Refused(x),
         }
-        verdict
     }
 
     // A run whose sums are C's words.
@@ -95,14 +106,13 @@ impl Run {
         let kind = self.kind;
         let signs = self.signs;
         let mode = self.mode;
-        let verdict = step::judge(kind, signs, mode);
-        let Verdict::Accepted = verdict else {
+        let Selected::As(_) = step::select(kind, signs, mode) else {
             return Verdict::Refused(Refusal::BadRun);
         };
         if Run::MAX_BLOCKS < self.blocks {
             return Verdict::Refused(Refusal::BadRun);
         }
-        verdict
+        Verdict::Accepted
     }
 
     // Refusals 10, 9 and 5 of a feed.
@@ -117,7 +127,8 @@ impl Run {
         if Run::MAX_BLOCKS <= self.blocks {
             return Verdict::Refused(Refusal::RunFull);
         }
-        let n = Lengths::of(kind);
+        let line = Entry::of(kind);
+        let n = Lengths::of(kind, line);
         if a != n.a {
             return Verdict::Refused(Refusal::WrongLength(0));
         }
@@ -142,8 +153,9 @@ impl Run {
         let sums = self.sums;
         let c = sums;
         let mut d = sums;
-        let n = Lengths::of(kind).c;
-        step::work(kind, signs, mode, a, b, &c[..n], &mut d[..n]);
+        let line = Entry::of(kind);
+        let n = Lengths::of(kind, line).c;
+        step::work(kind, line, signs, mode, a, b, &c[..n], &mut d[..n]);
         Run {
             kind,
             signs,
@@ -176,10 +188,7 @@ impl Run {
         let Verdict::Accepted = verdict else {
             return verdict;
         };
-        if d != Lengths::of(kind).c {
-            return Verdict::Refused(Refusal::WrongLength(0));
-        }
-        verdict
+        Run::judge_sums(kind, Entry::of(kind), d)
     }
 
     // The used sums, into D; the run is as it was.

@@ -1,17 +1,23 @@
 -- What an accepted step tells of its numbers and lengths, and that the plain step's selectors are never refused. Assumes nothing.
-use mathlib.Core.Path.{_≡_, refl, ap}
+use mathlib.Core.Path.{_≡_, refl, ap, subst}
 use mathlib.Core.Bool.{Bool, true, false, _&&_}
 use Prim.Native.Nat.{ℕ}
 use Rattle.laws.specs.Choice.{if_then_else_}
 use Rattle.answers.specs.Refusals.{given, refusal}
 use Rattle.answers.specs.Tests.{holds}
 use Rattle.answers.specs.Calls.{first, judgedBy}
-use Rattle.answers.specs.Right.{Passes}
-use Rattle.answers.proofs.Shows.{passes}
-use Rattle.kinds.specs.Kinds.{oneBit}
+use Rattle.answers.specs.Right.{Right, Given, Passes}
+use Rattle.answers.specs.Contracts.{Replies, Judges}
+use Rattle.answers.specs.declared.Refusal.{Refusal}
+use Rattle.answers.specs.declared.Verdict.the-variants.{Accepted, Refused}
+use Rattle.answers.proofs.Shows.{passes, admitted}
+use Rattle.kinds.specs.Kinds.{entryOf, oneBit}
+use Rattle.kinds.specs.declared.Entry.{Entry}
 use Rattle.kinds.specs.Refusals.{unknownKind}
 use Rattle.step.specs.StepCalls.{notArithmetic, selectorRefusals, bufferRefusals, stepRefusals, plainRefusals, stepAnswer}
-use Rattle.step.specs.Workers.{Ready, Sized}
+use Rattle.step.specs.Workers.{toldLine, selectorCall, Ready, Sized}
+use Rattle.step.specs.declared.Selected.{Selected}
+use Rattle.step.specs.declared.Selected.the-variants.{As, Refused as Selected·Refused}
 
 -- the selectors pass exactly where the numbers are ready
 module _ (k signs mode : ℕ) where
@@ -21,6 +27,20 @@ module _ (k signs mode : ℕ) where
 
   pub ready-passes : Ready k signs mode → Passes (selectorRefusals k signs mode)
   ready-passes ok = search ok
+
+-- from the line that a call was handed: the selectors were accepted, and it is the kind's, or they were refused
+module _ (k signs mode : ℕ) (s : Selected) (told : Replies (selectorCall k signs mode) (toldLine s)) where
+  right : (t : Selected) → s ≡ t → Right (selectorRefusals k signs mode) (toldLine t)
+  right t e = subst (λ (t : Selected). Right (selectorRefusals k signs mode) (toldLine t)) e (told .reply-right)
+
+  pub selected : (line : Entry) → s ≡ As line → Judges (selectorRefusals k signs mode) Accepted
+  selected line e = record { verdict-right = right (As line) e }
+
+  pub selected-line : (line : Entry) → s ≡ As line → Ready k signs mode × (line ≡ entryOf k)
+  selected-line line e = (ready k signs mode (admitted (selected line e) refl), subst (λ (t : Selected). Given (toldLine t) (entryOf k)) e (told .reply-is))
+
+  pub rejected : (x : Refusal) → s ≡ Selected·Refused x → Judges (selectorRefusals k signs mode) (Refused x)
+  rejected x e = record { verdict-right = right (Selected·Refused x) e }
 
 -- the lengths of an accepted step
 pub sized : (k a b c d : ℕ) → Passes (bufferRefusals k a b c d) → Sized k a b c d

@@ -2,12 +2,12 @@
 ghost use mathlib.Core.Path.{_≡_};
 ghost use Prim.Native.Nat.{_-_, _^_, _<_, _≤_};
 ghost use lib.ListN.{length};
-ghost use Rattle.kinds.specs.Kinds.{kinds, oneBit, integer, Arithmetic};
+ghost use Rattle.kinds.specs.Kinds.{entryOf, oneBit, integer, Arithmetic};
 ghost use Rattle.answers.specs.Tests.{Says};
-ghost use Rattle.answers.specs.Contracts.{Meets, Judges};
+ghost use Rattle.answers.specs.Contracts.{Meets, Replies, Judges};
 ghost use Rattle.step.specs.Step.{unsignedA, unsignedB, stepped};
-ghost use Rattle.step.specs.StepCalls.{selectorRefusals, bufferRefusals, stepCall, plainCall};
-ghost use Rattle.step.specs.Workers.{stepCallIn, Ready, Sized};
+ghost use Rattle.step.specs.StepCalls.{bufferRefusals, stepCall, plainCall};
+ghost use Rattle.step.specs.Workers.{toldLine, selectorCall, stepCallIn, Ready, Sized};
 ghost use Rattle.step_products.specs.Sums.{offsetOf};
 use answers::Refusal;
 use answers::Verdict;
@@ -19,35 +19,41 @@ use kinds::Mode;
 use kinds::Signs;
 use step_products::Offsets;
 
-// Refusals 1, 3 and 4, with which a step and the opening of a run begin.
-pub fn judge(kind: Kind, signs: Signs, mode: Mode) -> Verdict
-    ensures { λ r. ⌜ Judges (selectorRefusals (kind .0) (signs .0) (mode .0)) r ⌝ }
+// The line of a kind whose selectors were judged.
+pub enum Selected {
+    As(Entry),
+    Refused(Refusal),
+}
+
+// The kind's line, or refusal 1, 3 or 4, with which a step and the opening of a run begin.
+pub fn select(kind: Kind, signs: Signs, mode: Mode) -> Selected
+    ensures { λ r. ⌜ Replies (selectorCall (kind .0) (signs .0) (mode .0)) (toldLine r) ⌝ }
 {
     let k = kind.0;
     let s = signs.0;
     let m = mode.0;
     if k < 1 {
-        return Verdict::Refused(Refusal::UnknownKind);
+        return Selected::Refused(Refusal::UnknownKind);
     }
     if Kind::COUNT < k {
-        return Verdict::Refused(Refusal::UnknownKind);
+        return Selected::Refused(Refusal::UnknownKind);
     }
-    let element = kind.element();
-    if Entry::INT4 < element {
-        return Verdict::Refused(Refusal::NotArithmetic);
+    let line = Entry::of(kind);
+    if Entry::INT4 < line.element {
+        return Selected::Refused(Refusal::NotArithmetic);
     }
     if 3 < s {
-        return Verdict::Refused(Refusal::BadSelectors);
+        return Selected::Refused(Refusal::BadSelectors);
     }
     if 1 < m {
-        return Verdict::Refused(Refusal::BadSelectors);
+        return Selected::Refused(Refusal::BadSelectors);
     }
-    if element == Entry::ONE_BIT {
+    if line.element == Entry::ONE_BIT {
         if s != 0 {
-            return Verdict::Refused(Refusal::BadSelectors);
+            return Selected::Refused(Refusal::BadSelectors);
         }
     }
-    Verdict::Accepted
+    Selected::As(line)
 }
 
 fn unsigned_a(signs: Signs) -> bool
@@ -114,13 +120,22 @@ fn count(kind: Kind, mode: Mode, a: &[u32], b: &[u32], c: &[u32], d: &mut [u32])
 }
 
 // The words of D, for numbers and lengths that were judged: the worker of a step and of a run's feed.
-pub fn work(kind: Kind, signs: Signs, mode: Mode, a: &[u32], b: &[u32], c: &[u32], d: &mut [u32])
-    requires { ⌜ Ready (kind .0) (signs .0) (mode .0) ⌝ }
+pub fn work(
+    kind: Kind,
+    line: Entry,
+    signs: Signs,
+    mode: Mode,
+    a: &[u32],
+    b: &[u32],
+    c: &[u32],
+    d: &mut [u32],
+)
+    requires { ⌜ Ready (kind .0) (signs .0) (mode .0) × (line ≡ entryOf (kind .0)) ⌝ }
     requires { ⌜ Sized (kind .0) (length (now a)) (length (now b)) (length (now c)) (length (now d)) ⌝ }
     ensures { λ _. ⌜ now (d .exit) ≡ stepped (kind .0) (signs .0) (mode .0) (now (a .entry)) (now (b .entry))
         (now (c .entry)) ⌝ }
 {
-    if kind.element() == Entry::ONE_BIT {
+    if line.element == Entry::ONE_BIT {
         count(kind, mode, a, b, c, d);
         return;
     }
@@ -128,11 +143,11 @@ pub fn work(kind: Kind, signs: Signs, mode: Mode, a: &[u32], b: &[u32], c: &[u32
 }
 
 // Refusal 5, by the lengths of A, B, C and D.
-fn lengths(kind: Kind, a: usize, b: usize, c: usize, d: usize) -> Verdict
-    requires { ⌜ (1 ≤ kind .0) × (kind .0 ≤ kinds) ⌝ }
+fn lengths(kind: Kind, line: Entry, a: usize, b: usize, c: usize, d: usize) -> Verdict
+    requires { ⌜ line ≡ entryOf (kind .0) ⌝ }
     ensures { λ r. ⌜ Judges (bufferRefusals (kind .0) a b c d) r ⌝ }
 {
-    let n = Lengths::of(kind);
+    let n = Lengths::of(kind, line);
     if a != n.a {
         return Verdict::Refused(Refusal::WrongLength(0));
     }
@@ -151,6 +166,7 @@ fn lengths(kind: Kind, a: usize, b: usize, c: usize, d: usize) -> Verdict
 // A step whose selectors were judged.
 fn step_in(
     kind: Kind,
+    line: Entry,
     signs: Signs,
     mode: Mode,
     a: &[u32],
@@ -158,14 +174,14 @@ fn step_in(
     c: &[u32],
     d: &mut [u32],
 ) -> Verdict
-    requires { ⌜ Ready (kind .0) (signs .0) (mode .0) ⌝ }
+    requires { ⌜ Ready (kind .0) (signs .0) (mode .0) × (line ≡ entryOf (kind .0)) ⌝ }
     ensures { λ r. ⌜ Meets (stepCallIn (kind .0) (signs .0) (mode .0) (now (a .entry)) (now (b .entry)) (now (c .entry))
         (now (d .entry))) (now (d .entry)) r (now (d .exit)) ⌝ }
 {
-    let verdict = lengths(kind, a.len(), b.len(), c.len(), d.len());
+    let verdict = lengths(kind, line, a.len(), b.len(), c.len(), d.len());
     match verdict {
         Verdict::Accepted => {
-            work(kind, signs, mode, a, b, c, d);
+            work(kind, line, signs, mode, a, b, c, d);
             verdict
         }
         Verdict::Refused(_) => verdict,
@@ -185,10 +201,9 @@ pub fn step(
     ensures { λ r. ⌜ Meets (stepCall (kind .0) (signs .0) (mode .0) (now (a .entry)) (now (b .entry)) (now (c .entry))
         (now (d .entry))) (now (d .entry)) r (now (d .exit)) ⌝ }
 {
-    let verdict = judge(kind, signs, mode);
-    match verdict {
-        Verdict::Accepted => step_in(kind, signs, mode, a, b, c, d),
-        Verdict::Refused(_) => verdict,
+    match select(kind, signs, mode) {
+        Selected::As(line) => step_in(kind, line, signs, mode, a, b, c, d),
+        Selected::Refused(x) => Verdict::Refused(x),
     }
 }
 

@@ -1,30 +1,32 @@
 -- One kind counts bits, which it takes with signs 0; the others multiply. Assumes nothing.
 use borrow.Author.Needs.{needs}
-use mathlib.Core.Path.{sym, ap, _∙_}
+use mathlib.Core.Path.{_≡_, sym, ap, _∙_}
 use Prim.Native.Nat.{ℕ}
 use denote.Ref.{now}
+use Rattle.kinds.specs.Kinds.{entryOf}
+use Rattle.kinds.specs.declared.Entry.{Entry}
 use Rattle.step.specs.Step.{stepped}
 use Rattle.step.proofs.work.Statement.{statement}
 use Rattle.step.proofs.work.Tie as tie
 
-element-requires : tie.Need-element-requires
-element-requires c κs = search needs
+element-is : (s : tie.Start) → entryOf (s .args .kind .0) .element ≡ s .args .line .element
+element-is s = sym (ap (λ (e : Entry). e .element) (s .pre .0 .1))
 
 count-requires : tie.Need-count-requires
-count-requires c κs = search needs
+count-requires c κs = let e = element-is (c .before .before .before .before .before .before .before) in search needs
 
 same-length : tie.Need-same-length
 same-length c = search needs
 
 returns : tie.Need-returns
 returns c =
-    let e = c .before .before .before .before .before in
-    let s = e .before .before .before .before .before in
+    let t = c .before .before .before .before in
+    let s = t .before .before .before .before .before .before in
     c .before .before .count .ensures
-    ∙ ap (λ (signs : ℕ). stepped (s .args .kind .0) signs (s .args .mode .0) (now (s .args .a)) (now (s .args .b)) (now (s .args .c))) (sym (s .pre .0 .plain (sym (e .element .ensures .0) ∙ c .before .before .before .before .if1 .taken)))
+    ∙ ap (λ (signs : ℕ). stepped (s .args .kind .0) signs (s .args .mode .0) (now (s .args .a)) (now (s .args .b)) (now (s .args .c))) (sym (s .pre .0 .0 .plain (element-is s ∙ t .if1 .taken)))
 
 multiply-requires : tie.Need-multiply-requires
-multiply-requires c κs = search needs
+multiply-requires c κs = let e = element-is (c .before .before .before .before .before .before .before) in search needs
 
 same-length-2 : tie.Need-same-length-2
 same-length-2 c = search needs
@@ -34,4 +36,4 @@ returns-2 c = search needs
 
 pub work-spec : {M : Type 1} → statement M
 work-spec =
-    tie.close (tie.spec element-requires count-requires same-length returns multiply-requires same-length-2 returns-2)
+    tie.close (tie.spec count-requires same-length returns multiply-requires same-length-2 returns-2)

@@ -6,9 +6,6 @@ use Rattle.kinds.specs.declared.Entry.{Entry}
 use Rattle.buffers.proofs.Lengths.of.Statement.{statement}
 use Rattle.buffers.proofs.Lengths.of.Tie as tie
 
-of-requires : tie.Need-of-requires
-of-requires c κs = search needs
-
 cast-t3 : tie.Need-cast-t3
 cast-t3 c = search needs
 
@@ -29,8 +26,8 @@ mul-t8 c = search needs
 
 returns : tie.Need-returns
 returns c =
-    let is = c .before .before .before .of .ensures in
+    let is = c .before .before .before .pre in
     (ap (λ (e : Entry). 32 * e .a) is, ap (λ (e : Entry). 32 * e .b) is, ap (λ (e : Entry). 32 * e .c) is)
 
 pub of-spec : {M : Type 1} → statement M
-of-spec = tie.close (tie.spec of-requires cast-t3 mul-t4 cast-t5 mul-t6 cast-t7 mul-t8 returns)
+of-spec = tie.close (tie.spec cast-t3 mul-t4 cast-t5 mul-t6 cast-t7 mul-t8 returns)

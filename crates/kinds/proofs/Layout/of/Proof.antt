@@ -19,12 +19,12 @@ of-requires c κs = search needs
 layout-in-requires : tie.Need-layout-in-requires
 layout-in-requires c κs =
     let s = c .before in
-    (subst (λ (e : Entry). 0 < e .bits) (sym (c .of .ensures)) (bits-pos _ _ (legal s)), subst (λ (e : Entry). 0 < sideOf (e .bits)) (sym (c .of .ensures)) (side-pos _ _ (legal s)), s .pre .2)
+    (subst (λ (e : Entry). 0 < e .bits) (sym (c .of .ensures .0)) (bits-pos _ _ (legal s)), subst (λ (e : Entry). 0 < sideOf (e .bits)) (sym (c .of .ensures .0)) (side-pos _ _ (legal s)), s .pre .2)
 
 returns : tie.Need-returns
 returns c =
     let s = c .before .before in
-    let e = c .layout-in .ensures ∙ ap (λ (e : Entry). layoutOf e (roleOf (s .args .role .0))) (c .before .of .ensures) in
+    let e = c .layout-in .ensures ∙ ap (λ (e : Entry). layoutOf e (roleOf (s .args .role .0))) (c .before .of .ensures .0) in
     (e, subst Laid (sym e) (sane _ _ (legal s)))
 
 pub of-spec : {M : Type 1} → statement M

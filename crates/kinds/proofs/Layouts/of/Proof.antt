@@ -21,20 +21,20 @@ of-requires : tie.Need-of-requires
 of-requires c κs = search needs
 
 layout-in-requires : tie.Need-layout-in-requires
-layout-in-requires c κs = line-has (c .before) _ (c .of .ensures) 0 (omega arith)
+layout-in-requires c κs = line-has (c .before) _ (c .of .ensures .0) 0 (omega arith)
 
 layout-in-requires-2 : tie.Need-layout-in-requires-2
-layout-in-requires-2 c κs = line-has (c .before .before) _ (c .before .of .ensures) 1 (omega arith)
+layout-in-requires-2 c κs = line-has (c .before .before) _ (c .before .of .ensures .0) 1 (omega arith)
 
 layout-in-requires-3 : tie.Need-layout-in-requires-3
-layout-in-requires-3 c κs = line-has (c .before .before .before) _ (c .before .before .of .ensures) 2 (omega arith)
+layout-in-requires-3 c κs = line-has (c .before .before .before) _ (c .before .before .of .ensures .0) 2 (omega arith)
 
 made : (e e′ : Entry) → e ≡ e′ → (f g h : Layout) → f ≡ layoutOf e (roleOf 0) → g ≡ layoutOf e (roleOf 1) → h ≡ layoutOf e (roleOf 2)
     → _≡_ {A = Layouts} (record { a = f; b = g; c = h }) (record { a = layoutOf e′ (roleOf 0); b = layoutOf e′ (roleOf 1); c = layoutOf e′ (roleOf 2) })
 made e e′ p f g h pf pg ph = rw (pf, pg, ph, p)
 
 returns : tie.Need-returns
-returns c = made _ _ (c .before .before .before .of .ensures) _ _ _ (c .before .before .layout-in .ensures) (c .before .layout-in2 .ensures) (c .layout-in3 .ensures)
+returns c = made _ _ (c .before .before .before .of .ensures .0) _ _ _ (c .before .before .layout-in .ensures) (c .before .layout-in2 .ensures) (c .layout-in3 .ensures)
 
 pub of-spec : {M : Type 1} → statement M
 of-spec =

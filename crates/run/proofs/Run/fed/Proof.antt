@@ -15,14 +15,14 @@ long : (s : tie.Start) → length (s .args .self .sums) ≡ 128
 long s = search needs
 
 -- the used ones are among them
-module _ (c : tie.After-of) where
+module _ (c : tie.After-of2) where
   abbrev S : tie.Start
-  S = c .before .before .before .before .before .before .before .before
+  S = c .before .before .before .before .before .before .before .before .before
 
-  is : c .of .result .c ≡ wordsNeeded (S .args .self .kind .0) 2
-  is = c .of .ensures .2
+  is : c .of2 .result .c ≡ wordsNeeded (S .args .self .kind .0) 2
+  is = c .of2 .ensures .2
 
-  inside : (c .of .result .c ≤ 128) × (length (S .args .self .sums) ≡ 128)
+  inside : (c .of2 .result .c ≤ 128) × (length (S .args .self .sums) ≡ 128)
   inside = (omega (arith, used-le (S .args .self .kind .0) (S .pre .0 .0 .of), is), long S)
 
 add-blocks : tie.Need-add-blocks
@@ -30,6 +30,9 @@ add-blocks c = search needs
 
 of-requires : tie.Need-of-requires
 of-requires c κs = search needs
+
+of-requires-2 : tie.Need-of-requires-2
+of-requires-2 c κs = c .of .ensures .0
 
 array-share-prefix-c : tie.Need-array-share-prefix-c
 array-share-prefix-c c = omega (arith, inside c)
@@ -47,7 +50,7 @@ work-requires : tie.Need-work-requires
 work-requires c κs =
     let n = c .before .before in
     let p = S n .pre in (
-      p .0 .0,
+      (p .0 .0, n .before .of .ensures .0),
       record {
         of-a = p .1 .0;
         of-b = p .1 .1;
@@ -60,7 +63,7 @@ returns : tie.Need-returns
 returns c =
     let n = c .before .before .before .before in
     let w = c .before .work in
-    fed-is (S n .args .self) (n .of .result .c) _ _ _ (w .kept .1 .1 .1 .1 .1 .1 .0 ∙ length-take-le _ _ (omega (arith, inside n))) (is n) (w .ensures)
+    fed-is (S n .args .self) (n .of2 .result .c) _ _ _ (w .kept .1 .1 .1 .1 .1 .1 .1 .0 ∙ length-take-le _ _ (omega (arith, inside n))) (is n) (w .ensures)
 
 pub fed-spec : {M : Type 1} → statement M
 fed-spec =
@@ -68,6 +71,7 @@ fed-spec =
     (tie.spec
     add-blocks
     of-requires
+    of-requires-2
     array-share-prefix-c
     slice-aggregate-work
     array-borrow-prefix-d

@@ -2,15 +2,15 @@
 use borrow.Author.Needs.{needs}
 use mathlib.Core.Path.{refl}
 use native.Mathlib.Omega.{arith}
-use Rattle.answers.proofs.Shows.{admitted, not-passed, shown, hidden, stops, skips, accepts}
-use Rattle.step.proofs.Accepted.{ready, ready-passes}
+use Rattle.answers.proofs.Shows.{not-passed, shown, hidden, stops, skips, accepts}
+use Rattle.step.proofs.Accepted.{ready-passes, selected-line, rejected}
 use Rattle.run.specs.RunCalls.{badRun}
 use Rattle.run.proofs.Laws.{sound, sound-back}
 use Rattle.run.proofs.Run.judge.Statement.{statement}
 use Rattle.run.proofs.Run.judge.Tie as tie
 
-judge-requires : tie.Need-judge-requires
-judge-requires c κs = search needs
+select-requires : tie.Need-select-requires
+select-requires c κs = search needs
 
 enum-told : tie.Need-enum-told
 enum-told c = search needs
@@ -21,7 +21,7 @@ enum-told-2 c = search needs
 returns : tie.Need-returns
 returns c =
     let self = c .before .before .before .before .before .before .args .self in
-    stops (shown (badRun self) (λ d. not-passed (c .before .before .judge .ensures) (c .enum-told2 .given .1) (ready-passes _ _ _ (sound self d .0)))) refl refl
+    stops (shown (badRun self) (λ d. not-passed (rejected _ _ _ _ (c .before .before .select .ensures) _ (c .enum-told2 .given .1)) refl (ready-passes _ _ _ (sound self d .0)))) refl refl
 
 returns-2 : tie.Need-returns-2
 returns-2 c =
@@ -31,8 +31,8 @@ returns-2 c =
 returns-3 : tie.Need-returns-3
 returns-3 c =
     let self = c .before .before .before .before .before .before .before .before .args .self in
-    let e = c .before .before .enum-told .given .1 in
-    skips (hidden (badRun self) (sound-back self (ready _ _ _ (admitted (c .before .before .before .before .judge .ensures) e)) (c .if1 .left))) (accepts e)
+    let r = selected-line _ _ _ _ (c .before .before .before .before .select .ensures) _ (c .before .before .enum-told .given .1) in
+    skips (hidden (badRun self) (sound-back self (r .0) (c .if1 .left))) (accepts refl)
 
 pub judge-spec : {M : Type 1} → statement M
-judge-spec = tie.close (tie.spec judge-requires enum-told enum-told-2 returns returns-2 returns-3)
+judge-spec = tie.close (tie.spec select-requires enum-told enum-told-2 returns returns-2 returns-3)

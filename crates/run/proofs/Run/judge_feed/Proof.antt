@@ -36,23 +36,26 @@ of-requires c κs =
     let r = sound (c .before .before .before .before .before .before .args .self) (admitted (j .before .before .judge .ensures) (j .enum-told .given .1) .0) in
     search needs
 
+of-requires-2 : tie.Need-of-requires-2
+of-requires-2 c κs = c .of .ensures .0
+
 returns-3 : tie.Need-returns-3
 returns-3 c =
-    let j = c .before .before .before .before .before in
+    let j = c .before .before .before .before .before .before in
     continues (j .before .before .judge .ensures) (j .enum-told .given .1) (search needs)
 
 returns-4 : tie.Need-returns-4
 returns-4 c =
-    let j = c .before .before .before .before .before .before .before in
+    let j = c .before .before .before .before .before .before .before .before in
     continues (j .before .before .judge .ensures) (j .enum-told .given .1) (search needs)
 
 returns-5 : tie.Need-returns-5
 returns-5 c =
-    let j = c .before .before .before .before .before .before .before in
+    let j = c .before .before .before .before .before .before .before .before in
     let e = j .enum-told .given .1 in
-    let of = c .before .before .before .before .of .ensures in
+    let of = c .before .before .before .before .of2 .ensures in
     continues (j .before .before .judge .ensures) e
-    (skips (λ l. omega (arith, l, c .before .before .before .before .before .if1 .left))
+    (skips (λ l. omega (arith, l, c .before .before .before .before .before .before .if1 .left))
     (skips (λ n. omega (arith, n, c .before .before .if2 .left, of)) (skips (λ n. omega (arith, n, c .if3 .left, of)) (accepts e))))
 
 pub judge-feed-spec : {M : Type 1} → statement M
@@ -65,6 +68,7 @@ judge-feed-spec =
     returns
     returns-2
     of-requires
+    of-requires-2
     returns-3
     returns-4
     returns-5)

@@ -1,44 +1,37 @@
 -- A step's own judgement decides on the selectors, then C's length. Assumes nothing.
 use borrow.Author.Needs.{needs}
+use mathlib.Core.Path.{refl}
 use mathlib.Core.List.{[], _∷_}
-use native.Mathlib.Omega.{arith}
 use Rattle.answers.specs.Tests.{differs}
 use Rattle.answers.specs.Calls.{_at_when_}
-use Rattle.answers.proofs.Shows.{admitted, stands, continues, skips, accepts}
+use Rattle.answers.proofs.Shows.{stands, continues}
 use Rattle.buffers.specs.Buffers.{wordsNeeded}
-use Rattle.step.proofs.Accepted.{ready}
+use Rattle.step.proofs.Accepted.{selected, selected-line, rejected}
 use Rattle.run.proofs.Run.judge_open.Statement.{statement}
 use Rattle.run.proofs.Run.judge_open.Tie as tie
 
-judge-requires : tie.Need-judge-requires
-judge-requires c κs = search needs
+select-requires : tie.Need-select-requires
+select-requires c κs = search needs
 
-enum-told : tie.Need-enum-told
-enum-told c = search needs
+enum-known-line : tie.Need-enum-known-line
+enum-known-line c = search needs
 
-enum-told-2 : tie.Need-enum-told-2
-enum-told-2 c = search needs
+judge-sums-requires : tie.Need-judge-sums-requires
+judge-sums-requires c κs = selected-line _ _ _ _ (c .before .before .before .select .ensures) _ (c .before .line .given .1) .1
+
+enum-known-x : tie.Need-enum-known-x
+enum-known-x c = search needs
 
 returns : tie.Need-returns
-returns c =
-    let s = c .before .before .before in
-    stands (5 at 0 when differs (s .args .c) (wordsNeeded (s .args .kind .0) 2) ∷ []) (c .before .before .judge .ensures) (c .enum-told2 .given .1)
-
-of-requires : tie.Need-of-requires
-of-requires c κs = let r = ready _ _ _ (admitted (c .before .before .judge .ensures) (c .enum-told .given .1)) in search needs
+returns c = continues (selected _ _ _ _ (c .before .before .before .before .select .ensures) _ (c .before .before .line .given .1)) refl (c .judge-sums .ensures)
 
 returns-2 : tie.Need-returns-2
 returns-2 c =
-    let j = c .before .before .before in
-    continues (j .before .before .judge .ensures) (j .enum-told .given .1) (search needs)
-
-returns-3 : tie.Need-returns-3
-returns-3 c =
-    let j = c .before .before .before in
-    let e = j .enum-told .given .1 in
-    continues (j .before .before .judge .ensures) e (skips (λ n. omega (arith, n, c .if1 .left, c .before .before .of .ensures)) (accepts e))
+    let l = c .before .before .before in
+    let s = l .before in
+    stands (5 at 0 when differs (s .args .c) (wordsNeeded (s .args .kind .0) 2) ∷ []) (rejected _ _ _ _ (l .select .ensures) _ (c .before .x .given .1)) refl
 
 pub judge-open-spec : {M : Type 1} → statement M
 judge-open-spec =
     tie.close
-    (tie.spec judge-requires enum-told enum-told-2 returns of-requires returns-2 returns-3)
+    (tie.spec select-requires enum-known-line judge-sums-requires enum-known-x returns returns-2)

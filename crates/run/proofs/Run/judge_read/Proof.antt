@@ -1,10 +1,9 @@
 -- Refusal 10 was given, and stands, or not, and the length of D decides. Assumes nothing.
 use borrow.Author.Needs.{needs}
 use mathlib.Core.List.{[], _∷_}
-use native.Mathlib.Omega.{arith}
 use Rattle.answers.specs.Tests.{differs}
 use Rattle.answers.specs.Calls.{_at_when_}
-use Rattle.answers.proofs.Shows.{admitted, stands, continues, skips, accepts}
+use Rattle.answers.proofs.Shows.{admitted, stands, continues}
 use Rattle.buffers.specs.Buffers.{wordsNeeded}
 use Rattle.run.proofs.Laws.{sound}
 use Rattle.run.proofs.Run.judge_read.Statement.{statement}
@@ -29,15 +28,20 @@ of-requires c κs =
     let r = sound (c .before .before .before .before .args .self) (admitted (c .before .before .judge .ensures) (c .enum-told .given .1) .0) in
     search needs
 
-returns-2 : tie.Need-returns-2
-returns-2 c = continues (c .before .before .before .before .before .judge .ensures) (c .before .before .before .enum-told .given .1) (search needs)
+judge-sums-requires : tie.Need-judge-sums-requires
+judge-sums-requires c κs = c .of .ensures .0
 
-returns-3 : tie.Need-returns-3
-returns-3 c =
-    let e = c .before .before .before .enum-told .given .1 in
-    continues (c .before .before .before .before .before .judge .ensures) e (skips (λ n. omega (arith, n, c .if1 .left, c .before .before .of .ensures)) (accepts e))
+returns-2 : tie.Need-returns-2
+returns-2 c = continues (c .before .before .before .before .judge .ensures) (c .before .before .enum-told .given .1) (c .judge-sums .ensures)
 
 pub judge-read-spec : {M : Type 1} → statement M
 judge-read-spec =
     tie.close
-    (tie.spec judge-requires enum-told enum-told-2 returns of-requires returns-2 returns-3)
+    (tie.spec
+    judge-requires
+    enum-told
+    enum-told-2
+    returns
+    of-requires
+    judge-sums-requires
+    returns-2)
