@@ -63,7 +63,7 @@ f64Element = 7
 
 -- m, n, k of the shape and the element; bits of an A or B element; words per lane of A, of B, of C or D
 abbrev pub line : (m n k element bits a b c : ℕ) → Line
-line m n k element bits a b c = record { 0 = m; 1 = n; 2 = k; 3 = element; 4 = bits; 5 = a; 6 = b; 7 = c }
+line m n k element bits a b c = record { 0 = m; 1 = n; 2 = k; 3 = bits; 4 = element; 5 = a; 6 = b; 7 = c }
 
 -- The table, a line a kind.
 abbrev pub table : List Line
@@ -87,7 +87,7 @@ sumBits e = if e =? f16SumsElement then 16 else if e =? f64Element then 64 else 
 -- the columns by name; the line of a kind
 abbrev pub named : Line → Entry
 named l =
-    record { m = l .0; n = l .1; k = l .2; element = l .3; bits = l .4; sums = sumBits (l .3); a = l .5; b = l .6; c = l .7 }
+    record { m = l .0; n = l .1; k = l .2; element = l .4; bits = l .3; sums = sumBits (l .4); a = l .5; b = l .6; c = l .7 }
 
 abbrev pub lineAt : ℕ → Entry
 lineAt j = named (getD table j (line 0 0 0 0 0 0 0 0))

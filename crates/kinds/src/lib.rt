@@ -48,8 +48,8 @@ impl Lane {
     pub const QUAD: usize = 4;
 }
 
-// A line of the kinds table: m, n, k; what an element of A and B is, and its bits; words per lane of A, of B, of C or D. A look at one line
-// costs a copy of the table, and a copy goes by sixteen bytes: so many has a line.
+// A line of the kinds table: m, n, k; bits of an A or B element, and what it is; words per lane of A, of B, of C or D. A look at one line costs
+// a copy of the table, and a copy goes by sixteen bytes, so many as a line has, or by the eight that a place needs.
 pub struct Line(
     pub u16,
     pub u16,
@@ -62,16 +62,16 @@ pub struct Line(
 );
 
 const KINDS: [Line; Kind::COUNT as usize] = [
-    Line(8, 8, 128, Entry::ONE_BIT, 1, 1, 1, 2),
-    Line(16, 8, 16, Entry::INT8, 8, 2, 1, 4),
-    Line(16, 8, 32, Entry::INT8, 8, 4, 2, 4),
-    Line(16, 8, 32, Entry::INT4, 4, 2, 1, 4),
-    Line(16, 8, 64, Entry::INT4, 4, 4, 2, 4),
-    Line(16, 8, 8, Entry::F16, 16, 2, 1, 4),
-    Line(16, 8, 8, Entry::F16_SUMS, 16, 2, 1, 2),
-    Line(16, 8, 8, Entry::TF32, 32, 4, 2, 4),
-    Line(16, 8, 8, Entry::F64, 64, 8, 4, 8),
-    Line(8, 8, 4, Entry::F64, 64, 2, 2, 4),
+    Line(8, 8, 128, 1, Entry::ONE_BIT, 1, 1, 2),
+    Line(16, 8, 16, 8, Entry::INT8, 2, 1, 4),
+    Line(16, 8, 32, 8, Entry::INT8, 4, 2, 4),
+    Line(16, 8, 32, 4, Entry::INT4, 2, 1, 4),
+    Line(16, 8, 64, 4, Entry::INT4, 4, 2, 4),
+    Line(16, 8, 8, 16, Entry::F16, 2, 1, 4),
+    Line(16, 8, 8, 16, Entry::F16_SUMS, 2, 1, 2),
+    Line(16, 8, 8, 32, Entry::TF32, 4, 2, 4),
+    Line(16, 8, 8, 64, Entry::F64, 8, 4, 8),
+    Line(8, 8, 4, 64, Entry::F64, 2, 2, 4),
 ];
 
 // The same with its columns named, and the bits of a C or D element.
@@ -128,9 +128,9 @@ impl Entry {
             m: line.0,
             n: line.1,
             k: line.2,
-            element: line.3,
-            bits: line.4,
-            sums: Entry::sum_bits(line.3),
+            element: line.4,
+            bits: line.3,
+            sums: Entry::sum_bits(line.4),
             a: line.5,
             b: line.6,
             c: line.7,

@@ -24,24 +24,24 @@ pub fn put_text(out: &mut [u8], at: usize, text: &[u8]) -> usize
     at + i
 }
 
-// A number of one digit or two, as most are.
-fn put_short(out: &mut [u8], at: usize, n: u64) -> usize
-    requires { ⌜ (n < 100) × (at + length (decimal n) ≤ length (now out)) ⌝ }
+fn put_two_digits(out: &mut [u8], at: usize, n: u64) -> usize
+    requires { ⌜ (10 ≤ n) × (n < 100) × (at + length (decimal n) ≤ length (now out)) ⌝ }
+    ensures { λ r. ⌜ Put (decimal n) (now (out .entry)) at (now (out .exit)) r ⌝ }
+{
+    let after_tens = put(out, at, b'0' + (n / 10) as u8);
+    put(out, after_tens, b'0' + (n % 10) as u8)
+}
+
+// Most numbers have one digit or two, and go a short way.
+pub fn put_decimal(out: &mut [u8], at: usize, n: u64) -> usize
+    requires { ⌜ at + length (decimal n) ≤ length (now out) ⌝ }
     ensures { λ r. ⌜ Put (decimal n) (now (out .entry)) at (now (out .exit)) r ⌝ }
 {
     if n < 10 {
         return put(out, at, b'0' + n as u8);
     }
-    let after_tens = put(out, at, b'0' + (n / 10) as u8);
-    put(out, after_tens, b'0' + (n % 10) as u8)
-}
-
-pub fn put_decimal(out: &mut [u8], at: usize, n: u64) -> usize
-    requires { ⌜ at + length (decimal n) ≤ length (now out) ⌝ }
-    ensures { λ r. ⌜ Put (decimal n) (now (out .entry)) at (now (out .exit)) r ⌝ }
-{
     if n < 100 {
-        return put_short(out, at, n);
+        return put_two_digits(out, at, n);
     }
     let mut digits = [0u8; 20];
     let count = io::decimal(n, &mut digits);
