@@ -1,12 +1,10 @@
 -- The C interface: the word of a call is that of its judgement, and what is left is what the call leaves. Assumes nothing.
 use mathlib.Core.Path.{_≡_, refl, sym, ap, _∙_}
 use Prim.Native.Nat.{ℕ, _+_, _*_, _^_}
-use Rattle.answers.specs.Refusals.{Answer, given, refusal, numberOf, detailOf, told, after}
+use Rattle.answers.specs.Refusals.{Answer, given, refusal, told, after}
 use Rattle.answers.specs.Calls.{Call, judgement, giving}
 use Rattle.answers.specs.Contracts.{Meets, Replies, codeOf, Coded}
-use Rattle.answers.specs.declared.Refusal.{Refusal}
 use Rattle.answers.specs.declared.Verdict.{Verdict}
-use Rattle.answers.specs.declared.Verdict.the-variants.{Accepted, Refused}
 use Rattle.answers.proofs.Shows.{to-first, from-first, first-gives}
 use Rattle.answers.proofs.Demand1.{verdict-is, leaves, reply-is}
 
@@ -50,10 +48,14 @@ module _ {X : Type 0} {call : Call X} where
           by-refused (to-first (call .refusals) tt (refusal n d) (from-first (call .refusals) (call .gives) (refusal n d) (sym g ∙ reply-is r)) tt) e
 
       -- the same of a call with a verdict
-      module _ {was : X} {verdict : Verdict} {out : X} (m : Meets call was verdict out) where
-        pub left-given : {left : Y} → verdict ≡ Accepted → left ≡ f out → Coded (giving f call) old 0 left
-        left-given a e = by-given (sym (ap told a) ∙ verdict-is m) (e ∙ ap f (m .left-is ∙ ap (λ (v : Verdict). after (told v) (call .gives) was) a))
-
-        pub left-refused : {g : Refusal} {code : ℕ} → verdict ≡ Refused g → code ≡ numberOf g + detailOf g * 2 ^ 32
-            → Coded (giving f call) old code old
-        left-refused a e = by-refused (sym (ap told a) ∙ verdict-is m) e
+      pub left-after : {was : X} {verdict : Verdict} {out : X} {left : Y} {code : ℕ}
+          → Meets call was verdict out → code ≡ codeOf (told verdict) → left ≡ after (told verdict) (f out) old
+          → Coded (giving f call) old code left
+      left-after {was} {verdict} {out} m e l = record {
+        code-is = e ∙ ap codeOf (verdict-is m);
+        left-is = l ∙ same (told verdict) (m .left-is) ∙ ap (λ (q : Answer (Unit {0})). after q (f (call .gives)) old) (verdict-is m);
+      }
+        where
+          same : (q : Answer (Unit {0})) → out ≡ after q (call .gives) was → after q (f out) old ≡ after q (f (call .gives)) old
+          same (given x) e = ap f e
+          same (refusal n d) e = refl

@@ -9,7 +9,6 @@ ghost use Rattle.scale.specs.ScaleCall.{scaleCall};
 ghost use Rattle.answers.specs.Calls.{giving};
 ghost use Rattle.answers.specs.Contracts.{Coded};
 ghost use Rattle.words.specs.Words.{pairOf, wordsOf, openInWords, feedInWords, readInWords};
-use answers::Verdict;
 use kinds::Column;
 use kinds::Element;
 use kinds::Kind;
@@ -123,15 +122,7 @@ pub extern "C" fn wz_feed(words: &mut [u32; 132], a: &[u32], b: &[u32]) -> u64
         (now (words .exit)) ⌝ }
 {
     let fed = words::taken(words).feed(a, b);
-    let run = fed.run;
-    let verdict = fed.verdict;
-    match verdict {
-        Verdict::Accepted => {
-            words::put(run, words);
-            0
-        }
-        Verdict::Refused(refusal) => words::code(refusal),
-    }
+    words::put_fed(fed, words)
 }
 
 // The used sums.

@@ -3,7 +3,7 @@ ghost use mathlib.Core.Path.{_≡_};
 ghost use Prim.Native.Nat.{_+_, _*_, _^_};
 ghost use mathlib.Core.List.{[], _∷_};
 ghost use lib.ListN.{length, drop};
-ghost use Rattle.answers.specs.Refusals.{numberOf, detailOf, told};
+ghost use Rattle.answers.specs.Refusals.{numberOf, detailOf, told, after};
 ghost use Rattle.answers.specs.Contracts.{codeOf};
 ghost use Rattle.words.specs.Words.{runIn, wordsOf};
 use answers::Refusal;
@@ -11,6 +11,7 @@ use answers::Verdict;
 use kinds::Kind;
 use kinds::Mode;
 use kinds::Signs;
+use run::Handed;
 use run::Run;
 
 // A refusal's number, and its detail in the high half.
@@ -73,4 +74,21 @@ pub fn put(run: Run, words: &mut [u32])
     let sums = run.sums;
     buffers::copy(&sums, &mut words[4..132]);
     put_head(run, words);
+}
+
+// The words of a run that was fed, where the feed was accepted: refused, they stay. The answer is the verdict's code.
+pub fn put_fed(fed: Handed, words: &mut [u32]) -> u64
+    requires { ⌜ length (now words) ≡ 132 ⌝ }
+    ensures code { λ r. ⌜ r ≡ codeOf (told (fed .verdict)) ⌝ }
+    ensures left { λ _. ⌜ now (words .exit) ≡ after (told (fed .verdict)) (wordsOf (fed .run)) (now (words .entry)) ⌝ }
+{
+    let run = fed.run;
+    let verdict = fed.verdict;
+    match verdict {
+        Verdict::Accepted => {
+            put(run, words);
+            0
+        }
+        Verdict::Refused(refusal) => code(refusal),
+    }
 }
