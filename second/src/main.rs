@@ -32,21 +32,42 @@ use wazimroot::LIBRARY;
 const CASES: u64 = 100_000;
 const SEED: u64 = 20_260_101;
 
-/// Random cases a call, and the seed.
-fn arguments() -> Option<(u64, u64)> {
+/// The part of the comparisons that this process makes, dealt out like cards.
+struct Part {
+    number: usize,
+    of: usize,
+}
+
+impl Part {
+    /// From `1/2`, `2/2`.
+    fn parse(text: &str) -> Option<Part> {
+        let (number, of) = text.split_once('/')?;
+        let (number, of) = (number.parse().ok()?, of.parse().ok()?);
+        (1..=of).contains(&number).then_some(Part { number, of })
+    }
+
+    fn has(&self, comparison: usize) -> bool {
+        comparison % self.of == self.number - 1
+    }
+}
+
+/// The part, random cases a call, and the seed.
+fn arguments() -> Option<(Part, u64, u64)> {
     let arguments: Vec<String> = std::env::args().skip(1).collect();
-    if arguments.len() > 2 {
+    if arguments.len() > 3 {
         return None;
     }
     let number = |at: usize, default: u64| match arguments.get(at) {
         Some(argument) => argument.parse().ok(),
         None => Some(default),
     };
-    Some((number(0, CASES)?, number(1, SEED)?))
+    let part = Part::parse(arguments.first()?)?;
+    Some((part, number(1, CASES)?, number(2, SEED)?))
 }
 
 type Comparison = fn(&mut Bench) -> Result<Tally, Difference>;
 
+/// In such an order that the long ones fall to both parts of two.
 const COMPARISONS: [Comparison; 17] = [
     |bench| figures::figures(bench.library, bench.rules),
     places::wz_place,
@@ -54,8 +75,8 @@ const COMPARISONS: [Comparison; 17] = [
     fragments::wz_unpack,
     fragments::wz_pack,
     steps::wz_step,
-    steps::extremes,
     steps::wz_plain_step,
+    steps::extremes,
     runs::wz_open,
     runs::wz_feed,
     runs::wz_read,
@@ -68,7 +89,7 @@ const COMPARISONS: [Comparison; 17] = [
 ];
 
 /// Prints a line a comparison; gives how many cases were compared.
-fn compare_all(cases: u64, seed: u64) -> Result<u64, Difference> {
+fn compare(part: &Part, cases: u64, seed: u64) -> Result<u64, Difference> {
     let rules = Rules::new()?;
     let mut bench = Bench {
         library: &LIBRARY,
@@ -78,7 +99,7 @@ fn compare_all(cases: u64, seed: u64) -> Result<u64, Difference> {
         cases,
     };
     let mut compared = 0;
-    for comparison in COMPARISONS {
+    for (_, comparison) in COMPARISONS.iter().enumerate().filter(|(i, _)| part.has(*i)) {
         let tally = comparison(&mut bench)?;
         println!("{tally}");
         compared += tally.cases();
@@ -87,12 +108,13 @@ fn compare_all(cases: u64, seed: u64) -> Result<u64, Difference> {
 }
 
 fn main() {
-    let (cases, seed) = arguments().unwrap_or_else(|| {
-        eprintln!("usage: second [CASES [SEED]]");
+    let (part, cases, seed) = arguments().unwrap_or_else(|| {
+        eprintln!("usage: second PART/PARTS [CASES [SEED]]");
         exit(2)
     });
-    println!("second: {cases} random cases a call, seed {seed}");
-    match compare_all(cases, seed) {
+    let Part { number, of } = part;
+    println!("second: part {number} of {of}, {cases} random cases a call, seed {seed}");
+    match compare(&part, cases, seed) {
         Ok(compared) => println!("second: {compared} comparisons, no difference"),
         Err(difference) => {
             println!("difference: {difference}");
