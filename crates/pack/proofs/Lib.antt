@@ -1,3 +1,2 @@
 pub mod ByLayout
 pub mod Promises
-pub mod Written

@@ -1,23 +1,14 @@
--- What the workers answer, and what they ask for. Assumes nothing.
+-- What the worker answers. Assumes nothing.
 use Prim.Native.Nat.{ℕ, _*_}
-use mathlib.Core.Path.{_≡_}
 use mathlib.Core.List.{List}
 use lib.ListN.{length}
 use Rattle.answers.specs.Calls.{Call}
 use Rattle.kinds.specs.Kinds.{lanes}
 use Rattle.kinds.specs.Rule.{rowsOf, columnsOf}
-use Rattle.kinds.specs.Workers.{Laid}
 use Rattle.kinds.specs.declared.Layout.{Layout}
-use Rattle.buffers.specs.Buffers.{packed, Fitting}
+use Rattle.buffers.specs.Buffers.{packed}
 use Rattle.pack.specs.PackCall.{matrixRefusals}
 
 -- the call in a layout
 abbrev pub packCallIn : Layout → (matrix words : List ℕ) → Call (List ℕ)
 packCallIn f m ws = record { refusals = matrixRefusals m (rowsOf f * columnsOf f) (length ws) (lanes * f .words) (f .bits); gives = packed f m }
-
--- buffers of a layout's lengths, matrix and words, and entries that fit
-pub record Packs (f : Layout) (m ws : List ℕ) : Type 0 where
-  pub laid : Laid f
-  pub fitting : Fitting (f .bits) m
-  pub entries : length m ≡ rowsOf f * columnsOf f
-  pub words : length ws ≡ lanes * f .words

@@ -30,7 +30,7 @@ pub fn read(record: &[u8], words: &mut [u32]) -> Verdict
     let f = Layout::of(Kind(3), Role(Role::B));
     let mut matrix: [u64; 256] = [0; 256];
     widen(record, &mut matrix);
-    pack::fill_words(&matrix, words, f);
+    pack_lanes::fill_words(&matrix, words, f);
     Verdict::Accepted
 }
 
@@ -47,7 +47,7 @@ pub fn write(words: &[u32], record: &mut [u8]) -> Verdict
     }
     let f = Layout::of(Kind(3), Role(Role::B));
     let mut matrix: [u64; 256] = [0; 256];
-    unpack::fill(words, &mut matrix, f);
+    unpack_lanes::fill(words, &mut matrix, f);
     narrow(&matrix, record);
     Verdict::Accepted
 }

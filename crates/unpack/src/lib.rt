@@ -1,107 +1,15 @@
 // Unpacking: lane words to the row-major matrix of bit patterns.
-ghost use mathlib.Core.Path.{_≡_};
-ghost use Prim.Native.Nat.{ℕ, _+_, _*_, _^_, _<_, _≤_};
-ghost use lib.ListN.{length, getD};
-ghost use Rattle.laws.specs.Fields.{field};
-ghost use Rattle.kinds.specs.Kinds.{lanes};
 ghost use Rattle.kinds.specs.Workers.{Laid};
 ghost use Rattle.answers.specs.Contracts.{Meets};
-ghost use Rattle.laws.specs.Toward.{stores, Brings, Below};
-ghost use Rattle.buffers.specs.Buffers.{elementAt, unpacked};
-ghost use Rattle.buffers.specs.Stretches.{sizeOf, stretchesOf, OfLane, OfQuad};
-ghost use Rattle.unpack.specs.Workers.{unpackCallIn, Unpacks};
+ghost use Rattle.unpack.specs.Workers.{unpackCallIn};
 ghost use Rattle.unpack.specs.UnpackCall.{unpackCall};
 use answers::Refusal;
 use answers::Verdict;
-use buffers::Quad;
-use buffers::Stretch;
 use kinds::Kind;
 use kinds::Known;
 use kinds::Lane;
 use kinds::Layout;
 use kinds::Role;
-
-// Word k, as a wider number.
-fn word(words: &[u32], k: usize) -> u64
-    requires { ⌜ k < length (now words) ⌝ }
-    ensures { λ r. ⌜ (r ≡ getD (now (words .entry)) k 0) × (r < 2 ^ 32) ⌝ }
-{
-    words[k] as u64
-}
-
-// The fields of a word, stored from base on, step apart.
-fn scatter(matrix: &mut [u64], word: u64, bits: usize, side: usize, base: usize, step: usize)
-    requires { ⌜ (bits * side ≤ 32) × (side ≤ 32) × (bits < 32) × (base < 524288) × (step ≤ 128) ⌝ }
-    requires { ⌜ ((j : ℕ) → j < side → base + j * step < length (now matrix)) ⌝ }
-    ensures { λ _. ⌜ now (matrix .exit) ≡ stores base step side (λ j. field bits j word) (now (matrix .entry)) ⌝ }
-{
-    let mut j = 0;
-    while j < side {
-        matrix[base + j * step] = buffers::field_of(word, bits, j);
-        j += 1;
-    }
-}
-
-// The one element of a stretch, where it takes a word, or two.
-fn element(words: &[u32], f: Layout, stretch: Stretch, lane: Lane) -> u64
-    requires { ⌜ Laid f × (length (now words) ≡ lanes * f .words) × (32 ≤ f .bits) × (stretch .0 < stretchesOf f) ×
-        (lane .0 < lanes) ⌝ }
-    ensures { λ r. ⌜ r ≡ elementAt (f .bits) (f .words) (now (words .entry)) (lane .0) (stretch .0) ⌝ }
-{
-    let at = lane.0 as usize * f.words;
-    let r = stretch.0;
-    if f.bits == 64 {
-        let low = word(words, at + r * 2);
-        let high = word(words, at + (r * 2 + 1));
-        return high * 4294967296 + low;
-    }
-    word(words, at + r)
-}
-
-// One stretch of a lane: the fields of a word, or one element.
-fn fill_lane(words: &[u32], matrix: &mut [u64], f: Layout, stretch: Stretch, lane: Lane)
-    requires { ⌜ Unpacks f (now words) (now matrix) × (stretch .0 < stretchesOf f) × (lane .0 < lanes) ⌝ }
-    ensures { λ _. ⌜ Brings (unpacked f (now (words .entry))) (OfLane f (sizeOf f) (stretch .0) (lane .0))
-        (now (matrix .entry)) (now (matrix .exit)) ⌝ }
-{
-    let base = buffers::base_of(f, stretch, lane);
-    if f.bits < 32 {
-        let step = buffers::step_of(f);
-        let fields = word(words, lane.0 as usize * f.words + stretch.0);
-        return scatter(matrix, fields, f.bits, f.side, base, step);
-    }
-    matrix[base] = element(words, f, stretch, lane);
-}
-
-// The same stretch of a quad's lanes, and of every quad's.
-fn fill_quad(words: &[u32], matrix: &mut [u64], f: Layout, stretch: Stretch, quad: Quad)
-    requires { ⌜ Unpacks f (now words) (now matrix) × (stretch .0 < stretchesOf f) × (quad .0 < 8) ⌝ }
-    ensures { λ _. ⌜ Brings (unpacked f (now (words .entry))) (OfQuad f (sizeOf f) (stretch .0) (quad .0))
-        (now (matrix .entry)) (now (matrix .exit)) ⌝ }
-{
-    for t in 0..Lane::QUAD {
-        fill_lane(words, matrix, f, stretch, quad.lane(t));
-    }
-}
-
-fn fill_quads(words: &[u32], matrix: &mut [u64], f: Layout, stretch: Stretch)
-    requires { ⌜ Unpacks f (now words) (now matrix) × (stretch .0 < stretchesOf f) ⌝ }
-    ensures { λ _. ⌜ Brings (unpacked f (now (words .entry))) (Below 8 (OfQuad f (sizeOf f) (stretch .0)))
-        (now (matrix .entry)) (now (matrix .exit)) ⌝ }
-{
-    for quad in 0..Quad::COUNT {
-        fill_quad(words, matrix, f, stretch, Quad(quad));
-    }
-}
-
-pub fn fill(words: &[u32], matrix: &mut [u64], f: Layout)
-    requires { ⌜ Unpacks f (now words) (now matrix) ⌝ }
-    ensures { λ _. ⌜ now (matrix .exit) ≡ unpacked f (now (words .entry)) ⌝ }
-{
-    for stretch in 0..buffers::stretches_in(f) {
-        fill_quads(words, matrix, f, Stretch(stretch));
-    }
-}
 
 fn unpack_in(f: Layout, words: &[u32], matrix: &mut [u64]) -> Verdict
     requires { ⌜ Laid f ⌝ }
@@ -117,7 +25,7 @@ fn unpack_in(f: Layout, words: &[u32], matrix: &mut [u64]) -> Verdict
     if matrix.len() != rows * columns {
         return Verdict::Refused(Refusal::WrongLength(1));
     }
-    fill(words, matrix, f);
+    unpack_lanes::fill(words, matrix, f);
     Verdict::Accepted
 }
 
