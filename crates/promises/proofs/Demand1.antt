@@ -2,13 +2,13 @@
 -- refused call writes no word anywhere, and a refused run comes back as it went in.' That the code comes back the toolchain proves, no call having
 -- a `requires`. What follows is proved once for every call there may be (answers/proofs/Demand1); the calls of the bench are those of specs/Calls.
 -- Assumes nothing.
-use mathlib.Core.Path.{_≡_, refl}
+use mathlib.Core.Path.{_≡_, refl, ap, _∙_}
 use mathlib.Core.Logic.{_↔_}
 use mathlib.Core.Bool.{Bool, true, false, not, _||_}
 use mathlib.Core.List.{List, [], _∷_}
 use Prim.Native.Nat.{ℕ, suc, _-_, _≤_}
 use native.Mathlib.Omega.{arith}
-use lib.Dec.{T}
+use lib.Dec.{T, eqb, eqb→eq}
 use lib.IntN.{ℤ}
 use Rattle.answers.specs.Refusals.{Answer, given, refusal, told}
 use Rattle.answers.specs.Tests.{Test, is, within, Says, holds}
@@ -19,6 +19,7 @@ use Rattle.answers.specs.declared.Verdict.{Verdict}
 use Rattle.answers.specs.declared.Verdict.the-variants.{Accepted, Refused}
 use Rattle.answers.proofs.Words.{says}
 use Rattle.answers.proofs.Demand1 as every
+use Rattle.laws.specs.Choice.{if_then_else_, _=?_}
 use Rattle.laws.proofs.Every.{all, all-at}
 use Rattle.kinds.specs.Kinds.{kinds, lineAt, entryOf, oneBitElement, int8Element, int4Element, oneBit, integer, arithmetic}
 use Rattle.kinds.specs.declared.Entry.{Entry}
@@ -147,3 +148,13 @@ one-bit-kind = kinds-are (λ e. is (e .element) oneBitElement) 1 1 tt tt
 
 pub integer-kinds : (k : ℕ) → 1 ≤ k → k ≤ 10 → Says (integer k) ↔ ((2 ≤ k) × (k ≤ 5))
 integer-kinds = kinds-are (λ e. within (e .element) int8Element int4Element) 2 5 tt tt
+
+-- C/D elements have 32 bits, except 16 in kind 7 and 64 in kinds 9 and 10.
+abbrev pub sumBitsIn : (kind : ℕ) → ℕ
+sumBitsIn k = if k =? 7 then 16 else if (k =? 9) || (k =? 10) then 64 else 32
+
+pub sum-bits : (k : ℕ) → 1 ≤ k → k ≤ 10 → entryOf k .sums ≡ sumBitsIn k
+sum-bits k low high =
+    let back : suc (k - 1) ≡ k = omega arith in
+    eqb→eq (entryOf k .sums) (sumBitsIn (suc (k - 1))) (all-at kinds (λ j. eqb (lineAt j .sums) (sumBitsIn (suc j))) tt (k - 1) (omega arith))
+    ∙ ap sumBitsIn back
