@@ -32,10 +32,10 @@ abbrev pub _then_ : List Line → List Line → List Line
 _then_ [] rest = rest
 _then_ (l ∷ ls) rest = l ∷ (ls then rest)
 
--- their numbers, in order
-abbrev pub numbersOf : List Line → List ℕ
-numbersOf [] = []
-numbersOf (l ∷ ls) = l .number ∷ numbersOf ls
+-- number and detail of each, in order
+abbrev pub orderOf : List Line → List (ℕ × ℕ)
+orderOf [] = []
+orderOf (l ∷ ls) = (l .number, l .detail) ∷ orderOf ls
 
 -- 'Where several apply, the first in order is given.'
 abbrev pub first : {X : Type 0} → List Line → X → Answer X

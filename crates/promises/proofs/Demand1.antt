@@ -10,9 +10,10 @@ use Prim.Native.Nat.{ℕ, suc, _-_, _≤_}
 use native.Mathlib.Omega.{arith}
 use lib.Dec.{T, eqb, eqb→eq}
 use lib.IntN.{ℤ}
+use lib.ListN.{length}
 use Rattle.answers.specs.Refusals.{Answer, given, refusal, told}
-use Rattle.answers.specs.Tests.{Test, is, within, Says, holds}
-use Rattle.answers.specs.Calls.{Call, numbersOf, Gives, NoneSays}
+use Rattle.answers.specs.Tests.{Test, is, within, Says, holds, firstOf}
+use Rattle.answers.specs.Calls.{Call, orderOf, Gives, NoneSays}
 use Rattle.answers.specs.Contracts.{Meets, Replies, Coded}
 use Rattle.answers.specs.declared.Refusal.{Refusal}
 use Rattle.answers.specs.declared.Verdict.{Verdict}
@@ -21,12 +22,12 @@ use Rattle.answers.proofs.Words.{says}
 use Rattle.answers.proofs.Demand1 as every
 use Rattle.laws.specs.Choice.{if_then_else_, _=?_}
 use Rattle.laws.proofs.Every.{all, all-at}
-use Rattle.kinds.specs.Kinds.{kinds, lineAt, entryOf, oneBitElement, int8Element, int4Element, oneBit, integer, arithmetic}
+use Rattle.kinds.specs.Kinds.{kinds, lineAt, entryOf, bitsAt, oneBitElement, int8Element, int4Element, oneBit, integer, arithmetic}
 use Rattle.kinds.specs.declared.Entry.{Entry}
 use Rattle.kinds.proofs.Table.{where-so}
 use Rattle.places.specs.PlaceCalls.{placeCall, findCall}
 use Rattle.unpack.specs.UnpackCall.{unpackCall}
-use Rattle.pack.specs.PackCall.{packCall}
+use Rattle.pack.specs.PackCall.{tooWide, packCall}
 use Rattle.template.specs.Templates.{readCall as recordReadCall, writeCall as recordWriteCall}
 use Rattle.step.specs.StepCalls.{stepCall, plainCall}
 use Rattle.run.specs.declared.Run.{Run}
@@ -73,43 +74,50 @@ module _ {X : Type 0} {call : Call X} (asked : OfBench X call) where
   no-second-code = every.no-second-code
 
 -- 'Order: place 1, 2, 6; unpack 1, 2, 5; pack 1, 2, 5, 7; step and open 1, 3, 4, 5; feed 10, 9, 5; read 10, 5; scale 8, 5.' Each buffer has a line
--- of 5, each selector one of 8; a template record has only lines of 5, and the plain step no selectors.
+-- of 5, each selector one of 8, with its number as the detail; 7 has the first index. A template record has only lines of 5, and the plain step
+-- no selectors.
 module _ (k r : ℕ) where
-  pub place-order : (lane i : ℕ) → numbersOf (placeCall k r lane i .refusals) ≡ 1 ∷ 2 ∷ 6 ∷ []
+  pub place-order : (lane i : ℕ) → orderOf (placeCall k r lane i .refusals) ≡ (1, 0) ∷ (2, 0) ∷ (6, 0) ∷ []
   place-order lane i = refl
 
-  pub find-order : (row column : ℕ) → numbersOf (findCall k r row column .refusals) ≡ 1 ∷ 2 ∷ 6 ∷ []
+  pub find-order : (row column : ℕ) → orderOf (findCall k r row column .refusals) ≡ (1, 0) ∷ (2, 0) ∷ (6, 0) ∷ []
   find-order row column = refl
 
-  pub unpack-order : (words matrix : List ℕ) → numbersOf (unpackCall k r words matrix .refusals) ≡ 1 ∷ 2 ∷ 5 ∷ 5 ∷ []
+  pub unpack-order : (words matrix : List ℕ)
+      → orderOf (unpackCall k r words matrix .refusals) ≡ (1, 0) ∷ (2, 0) ∷ (5, 0) ∷ (5, 1) ∷ []
   unpack-order words matrix = refl
 
-  pub pack-order : (matrix words : List ℕ) → numbersOf (packCall k r matrix words .refusals) ≡ 1 ∷ 2 ∷ 5 ∷ 5 ∷ 7 ∷ []
+  pub pack-order : (matrix words : List ℕ)
+      → orderOf (packCall k r matrix words .refusals)
+      ≡ (1, 0) ∷ (2, 0) ∷ (5, 0) ∷ (5, 1) ∷ (7, firstOf (length matrix) (tooWide (bitsAt k r) matrix)) ∷ []
   pack-order matrix words = refl
 
 pub record-orders : (bytes words : List ℕ)
-    → (numbersOf (recordReadCall bytes words .refusals) ≡ 5 ∷ 5 ∷ []) × (numbersOf (recordWriteCall words bytes .refusals) ≡ 5 ∷ 5 ∷ [])
+    → (orderOf (recordReadCall bytes words .refusals) ≡ (5, 0) ∷ (5, 1) ∷ [])
+    × (orderOf (recordWriteCall words bytes .refusals) ≡ (5, 0) ∷ (5, 1) ∷ [])
 record-orders bytes words = (refl, refl)
 
 module _ (k signs mode : ℕ) (a b c d : List ℕ) where
-  pub step-order : numbersOf (stepCall k signs mode a b c d .refusals) ≡ 1 ∷ 3 ∷ 4 ∷ 5 ∷ 5 ∷ 5 ∷ 5 ∷ []
+  pub step-order : orderOf (stepCall k signs mode a b c d .refusals)
+      ≡ (1, 0) ∷ (3, 0) ∷ (4, 0) ∷ (5, 0) ∷ (5, 1) ∷ (5, 2) ∷ (5, 3) ∷ []
   step-order = refl
 
-  pub plain-order : numbersOf (plainCall k a b c d .refusals) ≡ 1 ∷ 3 ∷ 5 ∷ 5 ∷ 5 ∷ 5 ∷ []
+  pub plain-order : orderOf (plainCall k a b c d .refusals) ≡ (1, 0) ∷ (3, 0) ∷ (5, 0) ∷ (5, 1) ∷ (5, 2) ∷ (5, 3) ∷ []
   plain-order = refl
 
-  pub open-order : numbersOf (openCall k signs mode c .refusals) ≡ 1 ∷ 3 ∷ 4 ∷ 5 ∷ []
+  pub open-order : orderOf (openCall k signs mode c .refusals) ≡ (1, 0) ∷ (3, 0) ∷ (4, 0) ∷ (5, 0) ∷ []
   open-order = refl
 
 module _ (run : Run) (a b d : List ℕ) where
-  pub feed-order : numbersOf (feedCall run a b .refusals) ≡ 10 ∷ 9 ∷ 5 ∷ 5 ∷ []
+  pub feed-order : orderOf (feedCall run a b .refusals) ≡ (10, 0) ∷ (9, 0) ∷ (5, 0) ∷ (5, 1) ∷ []
   feed-order = refl
 
-  pub read-order : numbersOf (readCall run d .refusals) ≡ 10 ∷ 5 ∷ []
+  pub read-order : orderOf (readCall run d .refusals) ≡ (10, 0) ∷ (5, 0) ∷ []
   read-order = refl
 
 pub scale-order : (size side byteId threadId : ℕ) (metadata : List ℕ) (output : List ℤ)
-    → numbersOf (scaleCall size side byteId threadId metadata output .refusals) ≡ 8 ∷ 8 ∷ 8 ∷ 8 ∷ 5 ∷ 5 ∷ []
+    → orderOf (scaleCall size side byteId threadId metadata output .refusals)
+    ≡ (8, 0) ∷ (8, 1) ∷ (8, 2) ∷ (8, 3) ∷ (5, 0) ∷ (5, 1) ∷ []
 scale-order size side byteId threadId metadata output = refl
 
 -- 'Kinds 1 to 5 are the arithmetic kinds', kind 1 being one-bit and 2 to 5 integer: by these 3, 4 and 10 are given. The table's elements say so, by a
