@@ -25,12 +25,12 @@ use Rattle.kinds.proofs.Table.{layoutAt, sane, rows-are, columns-are, words-are
 use Rattle.buffers.specs.Buffers.{laneNumber, elementAt}
 use Rattle.buffers.specs.Buffers.{wordsNeeded}
 use Rattle.buffers.proofs.Round as round
-use Rattle.step.specs.Step.{entryIn, depth, signWeight, unsignedA, unsignedB, products, combinedBits, added, limit, resultAt}
+use Rattle.step_work.specs.Step.{entryIn, depth, signWeight, unsignedA, unsignedB, products, combinedBits, added, limit, resultAt}
 use Rattle.step_limit.specs.Limits.{cellOf}
 use Rattle.step.specs.StepCalls.{stepAnswer}
 use Rattle.answers.specs.Tests.{holds}
 use Rattle.step.proofs.Accepted.{step-accepted}
-use Rattle.step.proofs.Matrices.{legal, entry-is}
+use Rattle.step_work.proofs.Matrices.{legal, entry-is}
 use Rattle.step.proofs.Promises.{result-at}
 use Rattle.figures.specs.Figures.{uniform, Steps}
 

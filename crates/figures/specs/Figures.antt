@@ -10,7 +10,7 @@ use Rattle.kinds.specs.Kinds.{columnsAt, rowsAt}
 use Rattle.answers.specs.Refusals.{given}
 use Rattle.places.specs.PlaceCalls.{placeAnswer, findAnswer}
 use Rattle.buffers.specs.Buffers.{wordsNeeded}
-use Rattle.step.specs.Step.{entryIn, stepped}
+use Rattle.step_work.specs.Step.{entryIn, stepped}
 use Rattle.step.specs.StepCalls.{stepAnswer}
 
 -- A figure: the place of an element; the reverse question; a step on buffers whose words are all the same, with the number of D.

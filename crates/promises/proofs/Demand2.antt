@@ -34,10 +34,10 @@ use Rattle.buffers.proofs.Round.{lane-in, element-in, place-back, unpacked-leng
 use Rattle.unpack.proofs.Promises as unpacking
 use Rattle.pack.specs.PackCall.{packAnswer}
 use Rattle.pack.proofs.Promises as packing
-use Rattle.step.specs.Step.{entryIn, depth, signWeight, unsignedA, unsignedB, products, combinedBits, added, resultAt, results, stepped}
+use Rattle.step_work.specs.Step.{entryIn, depth, signWeight, unsignedA, unsignedB, products, combinedBits, added, resultAt, results, stepped}
 use Rattle.step_limit.specs.Limits.{cellOf}
 use Rattle.step.specs.StepCalls.{stepAnswer}
-use Rattle.step.specs.Workers.{Ready}
+use Rattle.step_work.specs.Workers.{Ready}
 use Rattle.step.proofs.Promises as steps
 
 -- 'every place': of every kind, role, lane and element that there is, the place is that of the clause in kinds/specs/Places.

@@ -19,9 +19,9 @@ use Rattle.answers.specs.Refusals.{Answer, given, refusal, after}
 use Rattle.answers.specs.Tests.{Says}
 use Rattle.answers.proofs.Words.{says}
 use Rattle.kinds.proofs.Table.{not-one-bit}
-use Rattle.step.specs.Step.{entryIn, depth, signWeight, unsignedA, unsignedB, products, combinedBits, added}
-use Rattle.step.specs.Workers.{Ready}
-use Rattle.step.proofs.Matrices.{entry-lt}
+use Rattle.step_work.specs.Step.{entryIn, depth, signWeight, unsignedA, unsignedB, products, combinedBits, added}
+use Rattle.step_work.specs.Workers.{Ready}
+use Rattle.step_work.proofs.Matrices.{entry-lt}
 use Rattle.run.specs.declared.Run.{Run}
 use Rattle.run.specs.Runs.{zeros, withUsed, usedOf, openedRun}
 use Rattle.run.specs.RunCalls.{openAnswer, feedAnswer, readAnswer}

@@ -14,10 +14,10 @@ use Rattle.kinds.proofs.Table.{layoutAt, sane}
 use Rattle.buffers.specs.Buffers.{wordsNeeded}
 use Rattle.buffers.proofs.Placed.{words-needed}
 use Rattle.buffers.proofs.Round as round
-use Rattle.step.specs.Step.{entryIn, added, limit, resultAt, results, stepped}
+use Rattle.step_work.specs.Step.{entryIn, added, limit, resultAt, results, stepped}
 use Rattle.step_limit.specs.Limits.{cellOf}
-use Rattle.step.specs.Workers.{Ready}
-use Rattle.step.proofs.Matrices.{legal}
+use Rattle.step_work.specs.Workers.{Ready}
+use Rattle.step_work.proofs.Matrices.{legal}
 use Rattle.step.proofs.Promises.{rowsD, columnsD, result-at}
 use Rattle.run.specs.declared.Run.{Run}
 use Rattle.run.specs.Runs.{runOf, withUsed, usedOf, fedRun}

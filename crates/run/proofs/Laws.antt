@@ -11,8 +11,8 @@ use Rattle.answers.specs.Right.{Denies, Passes}
 use Rattle.answers.proofs.Shows.{passes, passing}
 use Rattle.kinds.proofs.Table.{among-≤}
 use Rattle.buffers.specs.Buffers.{wordsNeeded}
-use Rattle.step.specs.Step.{stepped}
-use Rattle.step.specs.Workers.{Ready}
+use Rattle.step_work.specs.Step.{stepped}
+use Rattle.step_work.specs.Workers.{Ready}
 use Rattle.step.proofs.Accepted.{ready}
 use Rattle.run.specs.declared.Run.{Run}
 use Rattle.run.specs.Runs.{runOf, zeros, withUsed, usedOf, fedRun}

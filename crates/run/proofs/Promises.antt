@@ -21,9 +21,9 @@ use Rattle.answers.specs.Tests.{Says, holds}
 use Rattle.answers.proofs.Words.{says}
 use Rattle.kinds.proofs.Table.{not-one-bit}
 use Rattle.buffers.specs.Buffers.{wordsNeeded}
-use Rattle.step.specs.Step.{entryIn, depth, limit}
-use Rattle.step.specs.Workers.{Ready}
-use Rattle.step.proofs.Matrices.{entry-lt}
+use Rattle.step_work.specs.Step.{entryIn, depth, limit}
+use Rattle.step_work.specs.Workers.{Ready}
+use Rattle.step_work.proofs.Matrices.{entry-lt}
 use Rattle.step.proofs.Promises.{rowsD, columnsD, same-added}
 use Rattle.run.specs.declared.Run.{Run}
 use Rattle.run.specs.Runs.{runOf, zeros, withUsed, usedOf, openedRun, fedRun}

@@ -7,7 +7,7 @@ use lib.ListN.{length}
 use Rattle.laws.specs.Integers.{int32}
 use Rattle.answers.specs.Refusals.{Answer, given, refusal, after}
 use Rattle.buffers.specs.Buffers.{wordsNeeded}
-use Rattle.step.specs.Step.{entryIn, added}
+use Rattle.step_work.specs.Step.{entryIn, added}
 use Rattle.run.specs.declared.Run.{Run}
 use Rattle.run.specs.Runs.{kindIn, usedOf, fedRun}
 use Rattle.run.specs.RunCalls.{feedAnswer}

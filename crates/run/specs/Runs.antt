@@ -4,7 +4,7 @@ use mathlib.Core.List.{List, _++_}
 use lib.ListN.{length, take, drop}
 use Rattle.laws.specs.Lists.{tab}
 use Rattle.buffers.specs.Buffers.{wordsNeeded}
-use Rattle.step.specs.Step.{stepped}
+use Rattle.step_work.specs.Step.{stepped}
 use Rattle.run.specs.declared.Run.{Run}
 
 -- It holds 128 sum words in D's warp buffer order, its selectors and the number of accepted blocks.

@@ -8,7 +8,7 @@ ghost use Rattle.answers.specs.Calls.{_when_, _at_when_};
 ghost use Rattle.answers.specs.Contracts.{Meets, Judges};
 ghost use Rattle.kinds.specs.Kinds.{entryOf};
 ghost use Rattle.buffers.specs.Buffers.{wordsNeeded};
-ghost use Rattle.step.specs.Workers.{Ready};
+ghost use Rattle.step_work.specs.Workers.{Ready};
 ghost use Rattle.run.specs.Runs.{openedRun, zeroRun, fedRun};
 ghost use Rattle.run.specs.RunCalls.{maxBlocks, badRun, openRefusals, feedRefusals, readRefusals, openCall, feedCall, readCall};
 use answers::Refusal;
@@ -155,7 +155,7 @@ impl Run {
         let mut d = sums;
         let line = Entry::of(kind);
         let n = Lengths::of(kind, line).c;
-        step::work(kind, line, signs, mode, a, b, &c[..n], &mut d[..n]);
+        step_work::work(kind, line, signs, mode, a, b, &c[..n], &mut d[..n]);
         Run {
             kind,
             signs,

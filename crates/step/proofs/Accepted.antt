@@ -14,8 +14,9 @@ use Rattle.answers.proofs.Shows.{passes, admitted}
 use Rattle.kinds.specs.Kinds.{entryOf, oneBit}
 use Rattle.kinds.specs.declared.Entry.{Entry}
 use Rattle.kinds.specs.Refusals.{unknownKind}
+use Rattle.step_work.specs.Workers.{Ready, Sized}
 use Rattle.step.specs.StepCalls.{notArithmetic, selectorRefusals, bufferRefusals, stepRefusals, plainRefusals, stepAnswer}
-use Rattle.step.specs.Workers.{toldLine, selectorCall, Ready, Sized}
+use Rattle.step.specs.Workers.{toldLine, selectorCall}
 use Rattle.step.specs.declared.Selected.{Selected}
 use Rattle.step.specs.declared.Selected.the-variants.{As, Refused as Selected·Refused}
 

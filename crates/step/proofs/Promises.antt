@@ -15,12 +15,12 @@ use Rattle.kinds.specs.Kinds.{columnsAt, rowsAt, oneBit}
 use Rattle.answers.specs.Refusals.{given}
 use Rattle.answers.specs.Tests.{holds}
 use Rattle.kinds.proofs.Table.{rows-are, columns-are}
-use Rattle.step.specs.Step.{entryIn, depth, signWeight, unsignedA, unsignedB, products, combinedBits, added, limit, resultAt, stepped}
+use Rattle.step_work.specs.Step.{entryIn, depth, signWeight, unsignedA, unsignedB, products, combinedBits, added, limit, resultAt, stepped}
 use Rattle.step_limit.specs.Limits.{cellOf}
 use Rattle.step.specs.StepCalls.{stepAnswer}
-use Rattle.step.specs.Workers.{Ready}
+use Rattle.step_work.specs.Workers.{Ready}
 use Rattle.step.proofs.Accepted.{step-accepted}
-use Rattle.step.proofs.Matrices.{legal, entry-D}
+use Rattle.step_work.proofs.Matrices.{legal, entry-D}
 
 -- the rows and the columns of C and D
 abbrev pub rowsD : (kind : ℕ) → ℕ

@@ -8,7 +8,7 @@ use Rattle.answers.specs.Calls.{Line, _when_, _at_when_, _then_, first, Call}
 use Rattle.kinds.specs.Kinds.{oneBit, arithmetic}
 use Rattle.kinds.specs.Refusals.{unknownKind}
 use Rattle.buffers.specs.Buffers.{wordsNeeded}
-use Rattle.step.specs.Step.{stepped}
+use Rattle.step_work.specs.Step.{stepped}
 
 -- 3: a kind that is not arithmetic, 6 to 10
 abbrev pub notArithmetic : (kind : ℕ) → Test

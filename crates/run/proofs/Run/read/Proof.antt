@@ -8,7 +8,7 @@ use denote.Ref.{now}
 use lib.ListN.{length, take}
 use lib.Seq.{length-take-le}
 use Rattle.buffers.specs.Buffers.{wordsNeeded}
-use Rattle.step.specs.Workers.{Ready}
+use Rattle.step_work.specs.Workers.{Ready}
 use Rattle.answers.proofs.Shows.{admitted, worked, kept}
 use Rattle.run.specs.Runs.{usedOf}
 use Rattle.run.proofs.Laws.{used-le, read-passes}

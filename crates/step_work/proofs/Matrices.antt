@@ -27,7 +27,7 @@ use Rattle.buffers.specs.Buffers.{index, laneNumber, elementAt, entryAt, unpack
 use Rattle.buffers.specs.Buffers.{Fitting}
 use Rattle.buffers.proofs.Places.{place-in}
 use Rattle.buffers.proofs.Round as round
-use Rattle.step.specs.Step.{entryIn, depth, limit, added, resultAt, results, stepped}
+use Rattle.step_work.specs.Step.{entryIn, depth, limit, added, resultAt, results, stepped}
 use Rattle.step_limit.specs.Limits.{cellOf}
 
 -- an entry of a buffer's matrix is its holder's element

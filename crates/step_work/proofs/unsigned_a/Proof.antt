@@ -1,7 +1,7 @@
 -- The two branches are the definition's two tests. Assumes nothing.
 use borrow.Author.Tests.{eq-eqb, ne-eqb}
-use Rattle.step.proofs.unsigned_a.Statement.{statement}
-use Rattle.step.proofs.unsigned_a.Tie as tie
+use Rattle.step_work.proofs.unsigned_a.Statement.{statement}
+use Rattle.step_work.proofs.unsigned_a.Tie as tie
 
 returns : tie.Need-returns
 returns c = simp (eq-eqb (c .before .args .signs .0) 1 (c .if1 .taken))

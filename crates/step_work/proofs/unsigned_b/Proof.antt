@@ -1,7 +1,7 @@
 -- The two branches are the definition's two tests. Assumes nothing.
 use borrow.Author.Tests.{eq-eqb, ne-eqb}
-use Rattle.step.proofs.unsigned_b.Statement.{statement}
-use Rattle.step.proofs.unsigned_b.Tie as tie
+use Rattle.step_work.proofs.unsigned_b.Statement.{statement}
+use Rattle.step_work.proofs.unsigned_b.Tie as tie
 
 returns : tie.Need-returns
 returns c = simp (eq-eqb (c .before .args .signs .0) 2 (c .if1 .taken))

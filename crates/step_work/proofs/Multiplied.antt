@@ -13,15 +13,15 @@ use Rattle.kinds.specs.Workers.{Laid, layoutsOf}
 use Rattle.kinds.specs.declared.Layouts.{Layouts}
 use Rattle.kinds.proofs.Digits.{major-lt, minor-lt}
 use Rattle.kinds.proofs.Table.{not-one-bit, layoutAt, sane}
-use Rattle.step.specs.Step.{entryIn, depth, signWeight, unsignedA, unsignedB, products, added, resultAt, stepped}
+use Rattle.step_work.specs.Step.{entryIn, depth, signWeight, unsignedA, unsignedB, products, added, resultAt, stepped}
 use Rattle.step_limit.specs.Limits.{cellOf}
-use Rattle.step.specs.Workers.{Ready}
+use Rattle.step_work.specs.Workers.{Ready}
 use Rattle.step_products.specs.Sums.{offsetOf, raised, digitAt, offsetDot, digitsWord, digitsWords, Digits, Summable}
 use Rattle.step_products.specs.declared.Offsets.{Offsets}
 use Rattle.step_products.proofs.OffsetDots.{element-lt, dot-digits, offset-ext}
 use Rattle.step_products.proofs.Signs.{doubled}
 use Rattle.answers.specs.Tests.{Says}
-use Rattle.step.proofs.Matrices.{entry-A, entry-B, entry-C, stepped-is, legal, depth-is, depth-small, pairs, bits-pos, bits-le, columns-half, halves-pos, words-pos, room-A, room-B, halves-le}
+use Rattle.step_work.proofs.Matrices.{entry-A, entry-B, entry-C, stepped-is, legal, depth-is, depth-small, pairs, bits-pos, bits-le, columns-half, halves-pos, words-pos, room-A, room-B, halves-le}
 
 module _ (k signs mode : ℕ) (ok : Ready k signs mode) (two : Says (integer k)) (a b c xs ys : List ℕ) (fit : (x : ℕ) → getD c x 0 < 2 ^ 32) where
   abbrev β : ℕ

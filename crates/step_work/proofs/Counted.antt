@@ -18,10 +18,10 @@ use Rattle.kinds.proofs.Table.{where-so}
 use Rattle.kinds.specs.Rule.{laneOf, elementOf, major, minor}
 use Rattle.kinds.proofs.Digits.{major-lt, minor-lt}
 use Rattle.buffers.specs.Buffers.{elementAt, wordsNeeded}
-use Rattle.step.specs.Step.{entryIn, combinedBits, added, resultAt, stepped}
+use Rattle.step_work.specs.Step.{entryIn, combinedBits, added, resultAt, stepped}
 use Rattle.step_limit.specs.Limits.{cellOf}
 use Rattle.step_ones.specs.Combined.{bitsOf, onesWord}
-use Rattle.step.proofs.Matrices.{entry-A, entry-B, entry-C, stepped-is}
+use Rattle.step_work.proofs.Matrices.{entry-A, entry-B, entry-C, stepped-is}
 
 first : Arithmetic 1
 first = record { low = omega arith; high = omega arith; is = (omega arith, omega arith) }

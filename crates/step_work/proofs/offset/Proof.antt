@@ -7,8 +7,8 @@ use native.Mathlib.Nat.{one-mul, mod-eq-of-lt}
 use native.Mathlib.Omega.{arith}
 use lib.Pow.{pow-lt, pow-mono}
 use Rattle.step_products.specs.Sums.{offsetOf}
-use Rattle.step.proofs.offset.Statement.{statement}
-use Rattle.step.proofs.offset.Tie as tie
+use Rattle.step_work.proofs.offset.Statement.{statement}
+use Rattle.step_work.proofs.offset.Tie as tie
 
 one-shl : (b : ℕ) → b < 64 → 1 * 2 ^ b % 2 ^ 64 ≡ 2 ^ b
 one-shl b l = rw one-mul (mod-eq-of-lt (pow-lt l))

@@ -5,9 +5,9 @@ use Prim.Native.Nat.{ℕ}
 use denote.Ref.{now}
 use Rattle.kinds.specs.Kinds.{entryOf}
 use Rattle.kinds.specs.declared.Entry.{Entry}
-use Rattle.step.specs.Step.{stepped}
-use Rattle.step.proofs.work.Statement.{statement}
-use Rattle.step.proofs.work.Tie as tie
+use Rattle.step_work.specs.Step.{stepped}
+use Rattle.step_work.proofs.work.Statement.{statement}
+use Rattle.step_work.proofs.work.Tie as tie
 
 element-is : (s : tie.Start) → entryOf (s .args .kind .0) .element ≡ s .args .line .element
 element-is s = sym (ap (λ (e : Entry). e .element) (s .pre .0 .1))

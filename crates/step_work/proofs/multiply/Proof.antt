@@ -9,9 +9,9 @@ use Rattle.kinds.specs.Rule.{majors, minors}
 use Rattle.kinds.specs.Workers.{Laid}
 use Rattle.kinds.specs.declared.Layouts.{Layouts}
 use Rattle.step_products.specs.Sums.{offsetOf}
-use Rattle.step.proofs.Multiplied.{multiplied, numbers, summable}
-use Rattle.step.proofs.multiply.Statement.{statement}
-use Rattle.step.proofs.multiply.Tie as tie
+use Rattle.step_work.proofs.Multiplied.{multiplied, numbers, summable}
+use Rattle.step_work.proofs.multiply.Statement.{statement}
+use Rattle.step_work.proofs.multiply.Tie as tie
 
 module _ (k : tie.After-of) where
   abbrev S : tie.Start

@@ -1,9 +1,9 @@
 -- The one-bit kind's lengths, and the words counted by its numbers. Assumes nothing.
 use borrow.Author.Needs.{needs}
 use mathlib.Core.Path.{_∙_}
-use Rattle.step.proofs.Counted.{counted, needs as lengths}
-use Rattle.step.proofs.count.Statement.{statement}
-use Rattle.step.proofs.count.Tie as tie
+use Rattle.step_work.proofs.Counted.{counted, needs as lengths}
+use Rattle.step_work.proofs.count.Statement.{statement}
+use Rattle.step_work.proofs.count.Tie as tie
 
 cells-requires : tie.Need-cells-requires
 cells-requires c κs =
