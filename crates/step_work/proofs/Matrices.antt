@@ -7,9 +7,6 @@ use native.Mathlib.Omega.{arith}
 use lib.Arith.{digits-lt, digits-div, digits-mod}
 use lib.Dec.{T, leb, eqb}
 use lib.ListN.{length, getD}
-use lib.IntN.{_+ℤ_}
-use Rattle.laws.specs.Choice.{if_then_else_, _=?_}
-use Rattle.laws.specs.Integers.{int32, clamp}
 use Rattle.laws.specs.Fields.{field, joined}
 use Rattle.laws.specs.Lists.{tab, blocks}
 use Rattle.laws.proofs.Every.{all}
@@ -27,7 +24,7 @@ use Rattle.buffers.specs.Buffers.{index, laneNumber, elementAt, entryAt, unpack
 use Rattle.buffers.specs.Buffers.{Fitting}
 use Rattle.buffers.proofs.Places.{place-in}
 use Rattle.buffers.proofs.Round as round
-use Rattle.step_work.specs.Step.{entryIn, depth, limit, added, resultAt, results, stepped}
+use Rattle.step_work.specs.Step.{entryIn, depth, resultAt, results, stepped}
 use Rattle.step_limit.specs.Limits.{cellOf}
 
 -- an entry of a buffer's matrix is its holder's element
@@ -142,7 +139,7 @@ module _ (k : ℕ) (ok : Arithmetic k) where
 
     result-lt : (row column : ℕ) → at row column < 2 ^ 32
     unfolding resultAt cellOf
-    result-lt row column = word-lt (if limit k mode =? 0 then int32 (entryIn k 2 c row column) +ℤ added k signs mode a b row column else clamp (int32 (entryIn k 2 c row column) +ℤ added k signs mode a b row column))
+    result-lt row column = word-lt _
 
     results-are : results k signs mode a b c ≡ tab (rowsOf f * columnsOf f) (blocks (columnsOf f) at)
     unfolding results
