@@ -11,6 +11,18 @@ use kinds::Lane;
 use kinds::Layout;
 use kinds::Role;
 
+// Lane words to the row-major matrix of bit patterns.
+pub fn unpack(kind: Kind, role: Role, words: &[u32], matrix: &mut [u64]) -> Verdict
+    ensures { λ r. ⌜ Meets (unpackCall (kind .0) (role .0) (now (words .entry)) (now (matrix .entry)))
+        (now (matrix .entry)) r (now (matrix .exit)) ⌝ }
+{
+    match kinds::layout_of(kind, role) {
+        Known::As(f) => unpack_in(f, words, matrix),
+        Known::Refused(x) => Verdict::Refused(x),
+    }
+}
+
+// The same by the layout.
 fn unpack_in(f: Layout, words: &[u32], matrix: &mut [u64]) -> Verdict
     requires { ⌜ Laid f ⌝ }
     ensures { λ r. ⌜ Meets (unpackCallIn f (now (words .entry)) (now (matrix .entry))) (now (matrix .entry)) r
@@ -27,15 +39,4 @@ fn unpack_in(f: Layout, words: &[u32], matrix: &mut [u64]) -> Verdict
     }
     unpack_lanes::fill(words, matrix, f);
     Verdict::Accepted
-}
-
-// Lane words to the row-major matrix of bit patterns.
-pub fn unpack(kind: Kind, role: Role, words: &[u32], matrix: &mut [u64]) -> Verdict
-    ensures { λ r. ⌜ Meets (unpackCall (kind .0) (role .0) (now (words .entry)) (now (matrix .entry)))
-        (now (matrix .entry)) r (now (matrix .exit)) ⌝ }
-{
-    match kinds::layout_of(kind, role) {
-        Known::As(f) => unpack_in(f, words, matrix),
-        Known::Refused(x) => Verdict::Refused(x),
-    }
 }
