@@ -79,12 +79,12 @@ pub struct Entry {
     pub m: u16,
     pub n: u16,
     pub k: u16,
-    pub element: u16,
     pub bits: u16,
-    pub sums: u16,
+    pub element: u16,
     pub a: u16,
     pub b: u16,
     pub c: u16,
+    pub sums: u16,
 }
 
 impl Entry {
@@ -128,12 +128,12 @@ impl Entry {
             m: line.0,
             n: line.1,
             k: line.2,
-            element: line.4,
             bits: line.3,
-            sums: Entry::sum_bits(line.4),
+            element: line.4,
             a: line.5,
             b: line.6,
             c: line.7,
+            sums: Entry::sum_bits(line.4),
         }
     }
 }
