@@ -76,7 +76,7 @@ pub fn field_of(word: u64, bits: usize, j: usize) -> u64
 pub fn rows_in(f: Layout) -> usize
     requires { ⌜ Laid f ⌝ }
     ensures is { λ r. ⌜ r ≡ rowsOf f ⌝ }
-    ensures small { λ r. ⌜ r ≤ 128 ⌝ }
+    ensures small { λ r. ⌜ r ≤ 256 ⌝ }
 {
     if f.turned {
         return f.spans * Lane::QUAD * f.side;
@@ -87,7 +87,7 @@ pub fn rows_in(f: Layout) -> usize
 pub fn columns_in(f: Layout) -> usize
     requires { ⌜ Laid f ⌝ }
     ensures is { λ r. ⌜ r ≡ columnsOf f ⌝ }
-    ensures small { λ r. ⌜ r ≤ 128 ⌝ }
+    ensures small { λ r. ⌜ r ≤ 256 ⌝ }
 {
     if f.turned {
         return f.halves * 8;
@@ -99,7 +99,7 @@ pub fn columns_in(f: Layout) -> usize
 pub fn step_of(f: Layout) -> usize
     requires { ⌜ Laid f ⌝ }
     ensures is { λ r. ⌜ r ≡ stepOf (f .turned) (columnsOf f) ⌝ }
-    ensures small { λ r. ⌜ r ≤ 128 ⌝ }
+    ensures small { λ r. ⌜ r ≤ 256 ⌝ }
 {
     if f.turned {
         return columns_in(f);

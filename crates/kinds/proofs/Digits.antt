@@ -112,6 +112,6 @@ quotient-small i p h = le-trans (div-le-self (i / p) h) (div-le-self i p)
 pub group-small : (p h y : ℕ) → h ≤ 2 → y / p / 4 * h ≤ y * 2
 group-small p h y h1 = mul-le-mul (quotient-small y p 4) h1
 
-pub element-small : (p h x y : ℕ) → 0 < p → p ≤ 32 → h ≤ 2 → x ≤ 16 → y ≤ 128 → (y / p / 4 * h + x / 8) * p + y % p < 1024
+pub element-small : (p h x y : ℕ) → 0 < p → p ≤ 32 → h ≤ 2 → x ≤ 16 → y ≤ 256 → (y / p / 4 * h + x / 8) * p + y % p < 1024
 element-small p h x y p0 p1 h1 x1 y1 =
     omega (arith, digits-le y p (y / p / 4) h (x / 8) (quotient-le y p 4), mul-le-mul-left y h1, digit-le (x / 8) 2 p (omega arith), mod-lt y p0)

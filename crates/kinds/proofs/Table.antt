@@ -119,8 +119,8 @@ module _ (k r : ℕ) (ok : Legal k r) where
     spans-pos = le-test (λ e ρ. 1) (λ e ρ. layoutOf e ρ .spans) tt;
     spans-le = le-test (λ e ρ. layoutOf e ρ .spans) (λ e ρ. 2) tt;
     groups-le = le-test (λ e ρ. layoutOf e ρ .spans * layoutOf e ρ .halves) (λ e ρ. 4) tt;
-    elements-le = le-test (λ e ρ. elementsOf (layoutOf e ρ)) (λ e ρ. 64) tt;
-    minors-le = le-test (λ e ρ. minors (layoutOf e ρ)) (λ e ρ. 128) tt;
+    elements-le = le-test (λ e ρ. elementsOf (layoutOf e ρ)) (λ e ρ. 128) tt;
+    minors-le = le-test (λ e ρ. minors (layoutOf e ρ)) (λ e ρ. 256) tt;
     full = eq-test (λ e ρ. layoutOf e ρ .bits * elementsOf (layoutOf e ρ)) (λ e ρ. wordBits * layoutOf e ρ .words) tt;
     narrow-side = narrow-side;
     wide-side = wide-side;

@@ -1,4 +1,4 @@
--- Document 01, 'Kinds'. Assumes nothing.
+-- Document 01, 'Kinds', and document 02, K5. Assumes nothing.
 use Prim.Native.Nat.{ℕ, _-_, _*_, _/_, _≤_}
 use mathlib.Core.List.{List, [], _∷_}
 use lib.ListN.{getD}
@@ -15,15 +15,15 @@ lanes = 32
 abbrev pub wordBits : ℕ
 wordBits = 32
 
--- The kinds are 1 to 10.
+-- The kinds are 1 to 14.
 abbrev pub kinds : ℕ
-kinds = 10
+kinds = 14
 
 pub data KnownKind : Type 0 where
-  kind1 kind2 kind3 kind4 kind5 kind6 kind7 kind8 kind9 kind10 : KnownKind
+  kind1 kind2 kind3 kind4 kind5 kind6 kind7 kind8 kind9 kind10 kind11 kind12 kind13 kind14 : KnownKind
 
 abbrev pub knownKinds : List KnownKind
-knownKinds = kind1 ∷ kind2 ∷ kind3 ∷ kind4 ∷ kind5 ∷ kind6 ∷ kind7 ∷ kind8 ∷ kind9 ∷ kind10 ∷ []
+knownKinds = kind1 ∷ kind2 ∷ kind3 ∷ kind4 ∷ kind5 ∷ kind6 ∷ kind7 ∷ kind8 ∷ kind9 ∷ kind10 ∷ kind11 ∷ kind12 ∷ kind13 ∷ kind14 ∷ []
 
 abbrev pub kindOf : ℕ → KnownKind
 kindOf k = getD knownKinds (k - 1) kind1
@@ -78,6 +78,10 @@ table =
     ∷ line 16 8 8 tf32Element 32 4 2 4
     ∷ line 16 8 8 f64Element 64 8 4 8
     ∷ line 8 8 4 f64Element 64 2 2 4
+    ∷ line 8 8 16 int8Element 8 1 1 2
+    ∷ line 8 8 32 int4Element 4 1 1 2
+    ∷ line 16 8 128 oneBitElement 1 2 1 4
+    ∷ line 16 8 256 oneBitElement 1 4 2 4
     ∷ []
 
 -- C/D elements have 32 bits, except 16 in kind 7 and 64 in kinds 9 and 10.
@@ -87,7 +91,7 @@ sumBits e = if e =? f16SumsElement then 16 else if e =? f64Element then 64 else 
 -- the columns by name; the line of a kind
 abbrev pub named : Line → Entry
 named l =
-    record { m = l .0; n = l .1; k = l .2; element = l .4; bits = l .3; sums = sumBits (l .4); a = l .5; b = l .6; c = l .7 }
+    record { m = l .0; n = l .1; k = l .2; element = l .4; bits = l .3; a = l .5; b = l .6; c = l .7 }
 
 abbrev pub lineAt : ℕ → Entry
 lineAt j = named (getD table j (line 0 0 0 0 0 0 0 0))
@@ -95,7 +99,7 @@ lineAt j = named (getD table j (line 0 0 0 0 0 0 0 0))
 abbrev pub entryOf : ℕ → Entry
 entryOf k = lineAt (k - 1)
 
--- Kind 1 is one-bit, kinds 2 to 5 are integer kinds; kinds 1 to 5 are the arithmetic kinds.
+-- Kinds 1, 13 and 14 are one-bit, kinds 2 to 5, 11 and 12 integer kinds; these are the arithmetic kinds.
 abbrev pub oneBit : (kind : ℕ) → Test
 oneBit k = is (entryOf k .element) oneBitElement
 
@@ -125,7 +129,7 @@ columns e roleC = e .n
 abbrev pub bits : Entry → KnownRole → ℕ
 bits e roleA = e .bits
 bits e roleB = e .bits
-bits e roleC = e .sums
+bits e roleC = sumBits (e .element)
 
 abbrev pub words : Entry → KnownRole → ℕ
 words e roleA = e .a

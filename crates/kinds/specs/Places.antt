@@ -1,9 +1,9 @@
--- Document 01, 'Where an element sits': g is lane divided by 4, t is lane mod 4, i the element number from 0. Each clause is
+-- Document 01, 'Where an element sits', and document 02, K5: g is lane divided by 4, t is lane mod 4, i the element number from 0. Each clause is
 -- (row, column). Assumes nothing.
 use Prim.Native.Nat.{ℕ, _+_, _*_, _/_, _%_}
 use mathlib.Core.Bool.{_&&_, _||_}
 use Rattle.laws.specs.Choice.{if_then_else_, _<?_, _≤?_, _=?_}
-use Rattle.kinds.specs.Kinds.{KnownKind, kind1, kind2, kind3, kind4, kind5, kind6, kind7, kind8, kind9, kind10, KnownRole, roleA, roleB, roleC}
+use Rattle.kinds.specs.Kinds.{KnownKind, kind1, kind2, kind3, kind4, kind5, kind6, kind7, kind8, kind9, kind10, kind11, kind12, kind13, kind14, KnownRole, roleA, roleB, roleC}
 
 -- A (row; column)
 abbrev pub placeA : KnownKind → (g t i : ℕ) → ℕ × ℕ
@@ -17,6 +17,10 @@ placeA kind7 g t i = (if i <? 2 then g else g + 8, 2 * t + i % 2)
 placeA kind8 g t i = (if i % 2 =? 0 then g else g + 8, if i <? 2 then t else t + 4)
 placeA kind9 g t i = (if i % 2 =? 0 then g else g + 8, if i <? 2 then t else t + 4)
 placeA kind10 g t i = (g, t)
+placeA kind11 g t i = (g, 4 * t + i)
+placeA kind12 g t i = (g, 8 * t + i)
+placeA kind13 g t i = (if i <? 32 then g else g + 8, 32 * t + i % 32)
+placeA kind14 g t i = (if i <? 32 || 64 ≤? i && i <? 96 then g else g + 8, 32 * t + i % 32 + (if 64 ≤? i then 128 else 0))
 
 -- B (column is always g; row)
 abbrev pub rowB : KnownKind → (t i : ℕ) → ℕ
@@ -30,8 +34,12 @@ rowB kind7 t i = 2 * t + i
 rowB kind8 t i = t + 4 * i
 rowB kind9 t i = t + 4 * i
 rowB kind10 t i = t
+rowB kind11 t i = 4 * t + i
+rowB kind12 t i = 8 * t + i
+rowB kind13 t i = 32 * t + i
+rowB kind14 t i = 32 * t + i % 32 + (if 32 ≤? i then 128 else 0)
 
--- C/D: kinds 1 and 10, and all others
+-- C/D: kinds 1 and 10, and all others; K5: as kind 1 for 11 and 12, as kind 2 for 13 and 14
 abbrev pub narrowC : (g t i : ℕ) → ℕ × ℕ
 narrowC g t i = (g, 2 * t + i)
 
@@ -49,6 +57,10 @@ placeC kind7 = wideC
 placeC kind8 = wideC
 placeC kind9 = wideC
 placeC kind10 = narrowC
+placeC kind11 = narrowC
+placeC kind12 = narrowC
+placeC kind13 = wideC
+placeC kind14 = wideC
 
 -- the place of element i of a lane
 unfoldable pub placeOf : KnownKind → KnownRole → (lane i : ℕ) → ℕ × ℕ

@@ -5,7 +5,7 @@ use Rattle.answers.specs.Tests.{Test, over, unless, within}
 use Rattle.answers.specs.Calls.{Line, _when_}
 use Rattle.kinds.specs.Kinds.{kinds}
 
--- 1: kind not 1 to 10
+-- 1: kind not 1 to 14
 abbrev pub unknownKind : ℕ → Test
 unknownKind k = unless (within k 1 kinds)
 

@@ -40,8 +40,8 @@ pub record Sane (bits words side halves spans : ℕ) : Type 0 where
   pub spans-pos : 0 < spans
   pub spans-le : spans ≤ 2
   pub groups-le : spans * halves ≤ 4
-  pub elements-le : spans * halves * side ≤ 64
-  pub minors-le : spans * 4 * side ≤ 128
+  pub elements-le : spans * halves * side ≤ 128
+  pub minors-le : spans * 4 * side ≤ 256
   pub full : bits * (spans * halves * side) ≡ wordBits * words
   pub narrow-side : bits < wordBits → side ≡ wordBits / bits
   pub wide-side : wordBits ≤ bits → side ≤ 2

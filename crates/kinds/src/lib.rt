@@ -1,4 +1,4 @@
-// The kinds of document 01: their table, and how a kind and a role lie in a warp.
+// The kinds of documents 01 and 02: their table, and how a kind and a role lie in a warp.
 ghost use mathlib.Core.Path.{_≡_};
 ghost use Prim.Native.Nat.{_<_, _≤_};
 ghost use Rattle.answers.specs.Contracts.{Replies};
@@ -28,7 +28,7 @@ pub struct Mode(pub u32);
 
 impl Kind {
     // The kinds are 1 to COUNT.
-    pub const COUNT: u32 = 10;
+    pub const COUNT: u32 = 14;
 }
 
 impl Role {
@@ -72,9 +72,13 @@ const KINDS: [Line; Kind::COUNT as usize] = [
     Line(16, 8, 8, 32, Entry::TF32, 4, 2, 4),
     Line(16, 8, 8, 64, Entry::F64, 8, 4, 8),
     Line(8, 8, 4, 64, Entry::F64, 2, 2, 4),
+    Line(8, 8, 16, 8, Entry::INT8, 1, 1, 2),
+    Line(8, 8, 32, 4, Entry::INT4, 1, 1, 2),
+    Line(16, 8, 128, 1, Entry::ONE_BIT, 2, 1, 4),
+    Line(16, 8, 256, 1, Entry::ONE_BIT, 4, 2, 4),
 ];
 
-// The same with its columns named, and the bits of a C or D element.
+// The same with its columns named.
 pub struct Entry {
     pub m: u16,
     pub n: u16,
@@ -84,7 +88,6 @@ pub struct Entry {
     pub a: u16,
     pub b: u16,
     pub c: u16,
-    pub sums: u16,
 }
 
 impl Entry {
@@ -133,7 +136,6 @@ impl Entry {
             a: line.5,
             b: line.6,
             c: line.7,
-            sums: Entry::sum_bits(line.4),
         }
     }
 }
@@ -188,7 +190,7 @@ fn layout_in(e: Entry, role: Role) -> Layout
         return Layout::new(e.bits, e.b, side_of(e.bits), e.n, e.k, true);
     }
     if r == Role::C {
-        return Layout::new(e.sums, e.c, 2, e.m, e.n, false);
+        return Layout::new(Entry::sum_bits(e.element), e.c, 2, e.m, e.n, false);
     }
     Layout::new(e.bits, e.a, side_of(e.bits), e.m, e.k, false)
 }

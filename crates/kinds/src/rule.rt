@@ -58,7 +58,7 @@ pub fn lane_at(side: usize, x: usize, y: usize) -> usize
 }
 
 pub fn element_at(side: usize, halves: usize, x: usize, y: usize) -> usize
-    requires { ⌜ (0 < side) × (side ≤ 32) × (halves ≤ 2) × (x ≤ 16) × (y ≤ 128) ⌝ }
+    requires { ⌜ (0 < side) × (side ≤ 32) × (halves ≤ 2) × (x ≤ 16) × (y ≤ 256) ⌝ }
     ensures is { λ r. ⌜ r ≡ elementOf side halves x y ⌝ }
     ensures small { λ r. ⌜ r < 1024 ⌝ }
 {

@@ -3,7 +3,7 @@
 use mathlib.Core.Path.{_≡_, refl, sym, _∙_, ap, ap₂, subst}
 use mathlib.Core.Bool.{Bool, true, false}
 use mathlib.Core.List.{List, _∷_}
-use Prim.Native.Nat.{ℕ, zero, suc, _+_, _*_, _/_, _%_, _^_, _<_, min}
+use Prim.Native.Nat.{ℕ, zero, suc, _+_, _*_, _/_, _%_, _^_, _<_, _≤_, min}
 use native.Mathlib.Nat.{add-zero, add-suc}
 use native.Mathlib.Omega.{arith}
 use native.Mathlib.Numerals.{add-one}
@@ -113,3 +113,13 @@ ones-tab (suc n) f h =
     ones-cons (f 0) (tab n (λ k. f (suc k))) (h 0 (omega arith))
     ∙ ap (λ (m : ℕ). f 0 + m) (ones-tab n (λ k. f (suc k)) (λ k l. h (suc k) (omega arith)))
     ∙ sym (sum-front n f)
+
+-- there are no more of them than bits
+one-more : (t : Bool) (m n : ℕ) → m ≤ n → (if t then suc m else m) ≤ suc n
+one-more true m n h = omega arith
+one-more false m n h = omega arith
+
+pub ones-le : (n : ℕ) (f : ℕ → ℕ) → onesIn (tab n f) ≤ n
+unfolding tab onesIn
+ones-le zero f = omega arith
+ones-le (suc n) f = one-more (f 0 =? 1) (onesIn (tab n (λ k. f (suc k)))) n (ones-le n (λ k. f (suc k)))

@@ -2,14 +2,16 @@
 -- where the numbers have one sign, in every order. Assumes nothing.
 use mathlib.Core.Path.{_≡_, refl, sym, _∙_, ap, ap₂, subst}
 use mathlib.Core.List.{List, [], _∷_, List·Permᴰ, List·Permᴰ·nil, List·Permᴰ·cons, List·Permᴰ·swap, List·Permᴰ·trans}
-use Prim.Native.Nat.{ℕ, zero, suc, _+_, _-_, _%_, _^_, _<_, _≤_, min}
+use Prim.Native.Nat.{ℕ, zero, suc, _+_, _-_, _*_, _%_, _^_, _<_, _≤_, min}
+use native.Mathlib.Nat.{suc-mul}
 use native.Mathlib.Omega.{arith}
-use lib.IntN.{ℤ, pos, negsuc, natAbs, subℕ, _+ℤ_, +ℤ-assoc, +ℤ-comm, +ℤ-idr}
-use lib.Signed.{_≤ℤ_}
-use lib.Dec.{leb→le}
+use lib.IntN.{ℤ, pos, negsuc, natAbs, subℕ, _+ℤ_, +ℤ-assoc, +ℤ-comm, +ℤ-idr, pos-+ℤ-pos}
+use lib.ListN.{length}
+use lib.Signed.{_≤ℤ_, _<ℤ_}
+use lib.Dec.{leb→le, ltb→lt}
 use Rattle.laws.specs.Integers.{int32, word32, clamp}
 use Rattle.laws.specs.Totals.{total, clampedEach, All, NoneNegative, NonePositive, Wraps}
-use Rattle.laws.proofs.Differences.{is-pos, is-neg, sub-eq, sub-add, up, down, as-diff}
+use Rattle.laws.proofs.Differences.{Norm, plus, minus, norm, is-pos, is-neg, sub-eq, sub-add, up, down, as-diff}
 use Rattle.laws.proofs.Integers.{word-is, int-is, clamp-is, word-lt, word-int, wrap-wrap, wraps}
 
 -- a word after the numbers: wrapped after each, and clamped after each
@@ -153,3 +155,34 @@ fed-down c zs ws k h d =
 -- with wrapping, in every order, the sum differs from start plus total by a multiple of 2^32
 pub fed-wraps : (c : ℕ) (zs ws : List ℤ) → c < 2 ^ 32 → List·Permᴰ zs ws → Wraps (int32 (wrappedBy c ws)) (int32 c +ℤ total zs)
 fed-wraps c zs ws k d = rw (fed-wrapped c ws k, ← total-perm d) (wraps (int32 c +ℤ total zs))
+
+-- counts from 0 to m: their total is a count from 0 to m for each,
+abbrev pub Counts : (m : ℕ) → List ℤ → Type 0
+Counts m zs = All (λ z. (n : ℕ) × (z ≡ pos n) × (n ≤ m)) zs
+
+pub total-counts : (m : ℕ) (zs : List ℤ) → Counts m zs → (n : ℕ) × (total zs ≡ pos n) × (n ≤ length zs * m)
+unfolding total All
+total-counts m [] h = (0, refl, omega arith)
+total-counts m (z ∷ zs) h =
+    let r = total-counts m zs (h .1) in (
+      h .0 .0 + r .0,
+      ap₂ _+ℤ_ (h .0 .1) (r .1) ∙ pos-+ℤ-pos (h .0 .0) (r .0),
+      omega (arith, h .0 .2, r .2, suc-mul (length zs) m),
+    )
+
+-- and where the start and so much is below 2^31, the sum never wraps: it is start plus total
+below : (e : ℕ) → Norm e (2 ^ 31) → above e <ℤ pos (2 ^ 31) → e < 2 ^ 32
+below e (plus d s) h = let l = ltb→lt d (2 ^ 31) (subst (λ (z : ℤ). z <ℤ pos (2 ^ 31)) (is-pos e (2 ^ 31) d s) h .lt) in omega arith
+below e (minus d s) h = omega arith
+
+pub fed-exact : (c n m : ℕ) (zs : List ℤ) → c < 2 ^ 32 → total zs ≡ pos n → n ≤ m → (int32 c +ℤ pos m) <ℤ pos (2 ^ 31) → int32 (wrappedBy c zs) ≡ int32 c +ℤ total zs
+fed-exact c n m zs k e l h =
+    let s = (c + 2 ^ 31) % 2 ^ 32 in
+    let most = below (s + m) (norm (s + m) (2 ^ 31)) (subst (λ (z : ℤ). z <ℤ pos (2 ^ 31)) (plus-is m) h) in
+    ap int32 (fed-wrapped c zs k)
+    ∙ ap (λ (z : ℤ). int32 (word32 z)) (ap (λ (z : ℤ). int32 c +ℤ z) e ∙ plus-is n)
+    ∙ int-word (s + n) (omega arith)
+    ∙ sym (ap (λ (z : ℤ). int32 c +ℤ z) e ∙ plus-is n)
+  where
+    plus-is : (n : ℕ) → int32 c +ℤ pos n ≡ above ((c + 2 ^ 31) % 2 ^ 32 + n)
+    plus-is n = ap₂ _+ℤ_ (int-is c k) (sym (is-pos n 0 n (omega arith))) ∙ sub-add ((c + 2 ^ 31) % 2 ^ 32) (2 ^ 31) n 0

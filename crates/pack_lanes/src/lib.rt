@@ -17,7 +17,7 @@ use kinds::Layout;
 
 // The number whose fields are so many entries from base on, step apart.
 fn gather(matrix: &[u64], bits: usize, base: usize, step: usize, count: usize) -> u64
-    requires { ⌜ (bits * count ≤ 32) × (base < 524288) × (step ≤ 128) × (count ≤ 32) × Fitting bits (now matrix) ⌝ }
+    requires { ⌜ (bits * count ≤ 32) × (base < 524288) × (step ≤ 256) × (count ≤ 32) × Fitting bits (now matrix) ⌝ }
     requires { ⌜ ((j : ℕ) → j < count → base + j * step < length (now matrix)) ⌝ }
     ensures is { λ r. ⌜ r ≡ joined bits count (λ j. getD (now (matrix .entry)) (base + j * step) 0) ⌝ }
     ensures small { λ r. ⌜ r < 2 ^ 32 ⌝ }

@@ -2,9 +2,9 @@
 -- refused call writes no word anywhere, and a refused run comes back as it went in.' That the code comes back the toolchain proves, no call having
 -- a `requires`. What follows is proved once for every call there may be (answers/proofs/Demand1); the calls of the bench are those of specs/Calls.
 -- Assumes nothing.
-use mathlib.Core.Path.{_≡_, refl, ap, _∙_}
-use mathlib.Core.Logic.{_↔_}
-use mathlib.Core.Bool.{Bool, true, false, not, _||_}
+use mathlib.Core.Path.{_≡_, refl, ap, subst, _∙_}
+use mathlib.Core.Logic.{_↔_, _⊎_}
+use mathlib.Core.Bool.{Bool, true, false, not, _||_, false≢true}
 use mathlib.Core.List.{List, [], _∷_}
 use Prim.Native.Nat.{ℕ, suc, _-_, _≤_}
 use native.Mathlib.Omega.{arith}
@@ -12,7 +12,7 @@ use lib.Dec.{T, eqb, eqb→eq}
 use lib.IntN.{ℤ}
 use lib.ListN.{length}
 use Rattle.answers.specs.Refusals.{Answer, given, refusal, told}
-use Rattle.answers.specs.Tests.{Test, is, within, Says, holds, firstOf}
+use Rattle.answers.specs.Tests.{Test, is, either, within, Says, holds, firstOf}
 use Rattle.answers.specs.Calls.{Call, orderOf, Gives, NoneSays}
 use Rattle.answers.specs.Contracts.{Meets, Replies, Coded}
 use Rattle.answers.specs.declared.Refusal.{Refusal}
@@ -22,9 +22,8 @@ use Rattle.answers.proofs.Words.{says}
 use Rattle.answers.proofs.Demand1 as every
 use Rattle.laws.specs.Choice.{if_then_else_, _=?_}
 use Rattle.laws.proofs.Every.{all, all-at}
-use Rattle.kinds.specs.Kinds.{kinds, lineAt, entryOf, bitsAt, oneBitElement, int8Element, int4Element, oneBit, integer, arithmetic}
+use Rattle.kinds.specs.Kinds.{kinds, roleC, lineAt, entryOf, bits, bitsAt, oneBitElement, int8Element, int4Element, oneBit, integer, arithmetic}
 use Rattle.kinds.specs.declared.Entry.{Entry}
-use Rattle.kinds.proofs.Table.{where-so}
 use Rattle.places.specs.PlaceCalls.{placeCall, findCall}
 use Rattle.unpack.specs.UnpackCall.{unpackCall}
 use Rattle.pack.specs.PackCall.{tooWide, packCall}
@@ -120,49 +119,45 @@ pub scale-order : (size side byteId threadId : ℕ) (metadata : List ℕ) (outpu
     ≡ (8, 0) ∷ (8, 1) ∷ (8, 2) ∷ (8, 3) ∷ (5, 0) ∷ (5, 1) ∷ []
 scale-order size side byteId threadId metadata output = refl
 
--- 'Kinds 1 to 5 are the arithmetic kinds', kind 1 being one-bit and 2 to 5 integer: by these 3, 4 and 10 are given. The table's elements say so, by a
--- test that antt computes over every line.
-module _ (t : Entry → Test) (low high : ℕ) where
+-- 'Kinds 1 to 5 are the arithmetic kinds', kind 1 being one-bit and 2 to 5 integer; and document 02, K5, of 11 to 14: 'All four are arithmetic kinds; 13
+-- and 14 take modes and signs as kind 1 does.' By these 3, 4 and 10 are given. The table's elements say so, by a test that antt computes over
+-- every line.
+so : (a b : Bool) → a ≡ true → T (not a || b) → b ≡ true
+so true true e t = refl
+so true false e t = absurd t
+so false b e t = absurd (false≢true e)
+
+module _ (of-line : Entry → Test) (of-kind : (kind : ℕ) → Test) where
   abbrev inside : ℕ → Bool
-  inside j = not (holds (t (lineAt j))) || holds (within (suc j) low high)
+  inside j = not (holds (of-line (lineAt j))) || holds (of-kind (suc j))
 
   abbrev outside : ℕ → Bool
-  outside j = not (holds (within (suc j) low high)) || holds (t (lineAt j))
+  outside j = not (holds (of-kind (suc j))) || holds (of-line (lineAt j))
 
-  kinds-are : T (all kinds inside) → T (all kinds outside) → (k : ℕ) → 1 ≤ k → k ≤ kinds → Says (t (entryOf k)) ↔ ((low ≤ k) × (k ≤ high))
-  kinds-are i o k one known = (there, back)
-    where
-      is-true : (b : Bool) → T b → b ≡ true
-      is-true true h = refl
-      is-true false h = absurd h
+  kinds-are : T (all kinds inside) → T (all kinds outside) → (k : ℕ) → 1 ≤ k → k ≤ kinds → Says (of-line (entryOf k)) ↔ Says (of-kind k)
+  kinds-are i o k one known =
+      let line = of-line (entryOf k) in
+      let kind = of-kind (suc (k - 1)) in
+      subst (λ (n : ℕ). Says line ↔ Says (of-kind n)) {x = suc (k - 1)} (omega arith) (
+        λ p. says kind .0 (so (holds line) (holds kind) (says line .1 p) (all-at kinds inside i (k - 1) (omega arith))),
+        λ p. says line .0 (so (holds kind) (holds line) (says kind .1 p) (all-at kinds outside o (k - 1) (omega arith))),
+      )
 
-      there : Says (t (entryOf k)) → (low ≤ k) × (k ≤ high)
-      there p =
-          let w = within (suc (k - 1)) low high in
-          let h = says w .0 (is-true (holds w) (where-so (holds (t (entryOf k))) (holds w) (says (t (entryOf k)) .1 p) (all-at kinds inside i (k - 1) (omega arith)))) in
-          (omega (arith, h .0), omega (arith, h .1))
+pub arithmetic-kinds : (k : ℕ) → 1 ≤ k → k ≤ 14 → Says (arithmetic k) ↔ (((1 ≤ k) × (k ≤ 5)) ⊎ ((11 ≤ k) × (k ≤ 14)))
+arithmetic-kinds = kinds-are (λ e. within (e .element) oneBitElement int4Element) (λ k. either (within k 1 5) (within k 11 14)) tt tt
 
-      back : (low ≤ k) × (k ≤ high) → Says (t (entryOf k))
-      back p =
-          let w = within (suc (k - 1)) low high in
-          let h : Says w = (omega (arith, p .0), omega (arith, p .1)) in
-          says (t (entryOf k)) .0 (is-true (holds (t (entryOf k))) (where-so (holds w) (holds (t (entryOf k))) (says w .1 h) (all-at kinds outside o (k - 1) (omega arith))))
+pub one-bit-kinds : (k : ℕ) → 1 ≤ k → k ≤ 14 → Says (oneBit k) ↔ ((k ≡ 1) ⊎ ((13 ≤ k) × (k ≤ 14)))
+one-bit-kinds = kinds-are (λ e. is (e .element) oneBitElement) (λ k. either (is k 1) (within k 13 14)) tt tt
 
-pub arithmetic-kinds : (k : ℕ) → 1 ≤ k → k ≤ 10 → Says (arithmetic k) ↔ ((1 ≤ k) × (k ≤ 5))
-arithmetic-kinds = kinds-are (λ e. within (e .element) oneBitElement int4Element) 1 5 tt tt
+pub integer-kinds : (k : ℕ) → 1 ≤ k → k ≤ 14 → Says (integer k) ↔ (((2 ≤ k) × (k ≤ 5)) ⊎ ((11 ≤ k) × (k ≤ 12)))
+integer-kinds = kinds-are (λ e. within (e .element) int8Element int4Element) (λ k. either (within k 2 5) (within k 11 12)) tt tt
 
-pub one-bit-kind : (k : ℕ) → 1 ≤ k → k ≤ 10 → Says (oneBit k) ↔ ((1 ≤ k) × (k ≤ 1))
-one-bit-kind = kinds-are (λ e. is (e .element) oneBitElement) 1 1 tt tt
-
-pub integer-kinds : (k : ℕ) → 1 ≤ k → k ≤ 10 → Says (integer k) ↔ ((2 ≤ k) × (k ≤ 5))
-integer-kinds = kinds-are (λ e. within (e .element) int8Element int4Element) 2 5 tt tt
-
--- C/D elements have 32 bits, except 16 in kind 7 and 64 in kinds 9 and 10.
+-- C/D elements have 32 bits, except 16 in kind 7 and 64 in kinds 9 and 10; document 02, K5: C as kind 1 for 11 and 12, as kind 2 for 13 and 14.
 abbrev pub sumBitsIn : (kind : ℕ) → ℕ
 sumBitsIn k = if k =? 7 then 16 else if (k =? 9) || (k =? 10) then 64 else 32
 
-pub sum-bits : (k : ℕ) → 1 ≤ k → k ≤ 10 → entryOf k .sums ≡ sumBitsIn k
+pub sum-bits : (k : ℕ) → 1 ≤ k → k ≤ 14 → bitsAt k 2 ≡ sumBitsIn k
 sum-bits k low high =
     let back : suc (k - 1) ≡ k = omega arith in
-    eqb→eq (entryOf k .sums) (sumBitsIn (suc (k - 1))) (all-at kinds (λ j. eqb (lineAt j .sums) (sumBitsIn (suc j))) tt (k - 1) (omega arith))
+    eqb→eq (bitsAt k 2) (sumBitsIn (suc (k - 1))) (all-at kinds (λ j. eqb (bits (lineAt j) roleC) (sumBitsIn (suc j))) tt (k - 1) (omega arith))
     ∙ ap sumBitsIn back

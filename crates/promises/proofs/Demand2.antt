@@ -1,5 +1,5 @@
 -- Demand 2, a sentence above its statement: 'For the ten kinds, every place, unpacked matrix, packed warp and integer or one-bit step is what
--- the PTX rules say. Unpacking what was packed gives the matrix back, and packing what was unpacked the words.' Assumes nothing.
+-- the PTX rules say. Unpacking what was packed gives the matrix back, and packing what was unpacked the words.' Document 02, K5, makes the ten kinds fourteen. Assumes nothing.
 use mathlib.Core.Path.{_≡_, refl, sym, ap, subst, _∙_}
 use mathlib.Core.Logic.{_↔_, _≢_, ⊎-elim}
 use mathlib.Core.List.{List}
@@ -12,6 +12,7 @@ use Rattle.laws.specs.Bits.{combine, onesIn}
 use Rattle.laws.specs.Integers.{value, sumZ, int32, clamp}
 use Rattle.laws.specs.Fields.{field}
 use Rattle.laws.specs.Lists.{tab, blocks}
+use Rattle.laws.proofs.Bits.{ones-le}
 use Rattle.laws.proofs.Lists.{is-tab}
 use Rattle.laws.specs.Totals.{Wraps}
 use Rattle.kinds.specs.Kinds.{kindOf, roleOf, bits, words, bitsAt, columnsAt, elementsAt, rowsAt, wordsAt, Legal, oneBit, integer, Arithmetic}
@@ -38,6 +39,7 @@ use Rattle.step_work.specs.Step.{entryIn, depth, signWeight, unsignedA, unsigne
 use Rattle.step_limit.specs.Limits.{cellOf}
 use Rattle.step.specs.StepCalls.{stepAnswer}
 use Rattle.step_work.specs.Workers.{Ready}
+use Rattle.step_work.proofs.Counted.{result-is}
 use Rattle.step.proofs.Promises as steps
 
 -- 'every place': of every kind, role, lane and element that there is, the place is that of the clause in kinds/specs/Places.
@@ -205,13 +207,10 @@ module _ (k signs : ℕ) (known : Arithmetic k) (integers : Says (integer k)) (s
   integer-clamped = ap int32 (entry-is 1 (omega arith)) ∙ steps.clamped (entryIn k 2 c row column) (products k signs a b row column)
 
 -- 'or one-bit step': 'In kind 1 mode 0 is xor, mode 1 is and: D is C plus the count of ones among the K combined bits, and it wraps.'
+-- Document 02, K5: '13 and 14 take modes and signs as kind 1 does.'
 module _ (k mode : ℕ) (known : Arithmetic k) (bit : Says (oneBit k)) (mode-le : mode ≤ 1) (a b c : List ℕ) (row column : ℕ) (hr : row < rowsAt k 2) (hc : column < columnsAt k 2) where
-  bit-is : resultAt k 0 mode a b c row column ≡ cellOf 0 (entryIn k 2 c row column) (pos (onesIn (combinedBits k mode a b row column)))
-  unfolding resultAt added
-  bit-is = simp (says (oneBit k) .1 bit)
-
   bit-entry-is : entryIn k 2 (stepped k 0 mode a b c) row column ≡ cellOf 0 (entryIn k 2 c row column) (pos (onesIn (combinedBits k mode a b row column)))
-  bit-entry-is = steps.result-at k 0 mode (record { of = known; signs-le = omega arith; mode-le = mode-le; plain = λ e. refl }) a b c row column hr hc ∙ bit-is
+  bit-entry-is = steps.result-at k 0 mode (record { of = known; signs-le = omega arith; mode-le = mode-le; plain = λ e. refl }) a b c row column hr hc ∙ result-is k known bit mode a b c row column
 
   pub one-bit-wrapped : Wraps
       (int32 (entryIn k 2 (stepped k 0 mode a b c) row column))
@@ -226,6 +225,14 @@ module _ (k mode : ℕ) (known : Arithmetic k) (bit : Says (oneBit k)) (mode-le 
       → w ≡ entryIn k 2 (stepped k 0 mode a b c) row column
   unfolding combinedBits
   one-bit-wrapped-only w l h = steps.wrapped-only (entryIn k 2 c row column) w (pos (onesIn (combinedBits k mode a b row column))) l h ∙ sym bit-entry-is
+
+-- Each count lies in 0 to K, which is 128 in kinds 1 and 13 and 256 in kind 14.
+pub count-le : (k mode : ℕ) (a b : List ℕ) (row column : ℕ)
+    → onesIn (tab (depth k) (λ j. combine mode (entryIn k 0 a row j) (entryIn k 1 b j column))) ≤ depth k
+count-le k mode a b row column = ones-le (depth k) (λ j. combine mode (entryIn k 0 a row j) (entryIn k 1 b j column))
+
+pub depths : (depth 1 ≡ 128) × (depth 13 ≡ 128) × (depth 14 ≡ 256)
+depths = (refl, refl, refl)
 
 -- 'Two accepted steps that agree in these agree in row r of D: no boat reaches another boat's row.'
 pub own-row : (k signs mode row : ℕ) (a a′ b b′ c c′ : List ℕ)

@@ -4,10 +4,13 @@
 -- fed.' Every order is every permutation of the list; Wraps is congruence modulo 2^32. Assumes nothing.
 use mathlib.Core.Path.{_≡_, sym, ap, ap₂, subst, _∙_}
 use mathlib.Core.Logic.{_↔_, _⊎_}
-use mathlib.Core.List.{List, List·Permᴰ}
-use Prim.Native.Nat.{ℕ, _^_, _<_, _≤_}
+use mathlib.Core.List.{List, List·Permᴰ, Permᴰ·refl}
+use Prim.Native.Nat.{ℕ, _*_, _^_, _<_, _≤_}
+use native.Mathlib.Nat.{le-trans, mul-le-mul}
 use native.Mathlib.Omega.{arith}
-use lib.IntN.{pos, _+ℤ_, _*ℤ_}
+use lib.IntN.{ℤ, pos, _+ℤ_, _*ℤ_, +ℤ-idl}
+use lib.Signed.{_<ℤ_, ltZ-yes}
+use lib.Dec.{lt→ltb}
 use lib.ListN.{length}
 use Rattle.laws.specs.Bits.{combine, onesIn}
 use Rattle.laws.specs.Integers.{value, sumZ, int32, clamp}
@@ -22,6 +25,7 @@ use Rattle.kinds.proofs.Table.{not-one-bit}
 use Rattle.step_work.specs.Step.{entryIn, depth, signWeight, unsignedA, unsignedB, products, combinedBits, added}
 use Rattle.step_work.specs.Workers.{Ready}
 use Rattle.step_work.proofs.Matrices.{entry-lt}
+use Rattle.step_work.proofs.Counted.{depth-le}
 use Rattle.run.specs.declared.Run.{Run}
 use Rattle.run.specs.Runs.{zeros, withUsed, usedOf, openedRun}
 use Rattle.run.specs.RunCalls.{openAnswer, feedAnswer, readAnswer}
@@ -117,6 +121,29 @@ module _ (k signs mode : ℕ) (c : List ℕ) (opened : openAnswer k signs mode (
     wrapped-only one xs ys n s d w l h =
         let t = runs.wrapped-total k signs mode c opened row column hr hc one xs ys (accepted-all xs .1 (n, s)) d in
         ap int32 (wraps-only w _ l h ∙ sym (wraps-only _ _ (below ys (t .0)) (t .1)))
+
+    -- Document 02, K5, 'sixteen boats one-bit': from a start s with s + 4,096 times K below 2^31 each sum of a one-bit kind is the exact total, in every order.
+    pub one-bit-exact : Says (oneBit k) → (int32 (entryIn k 2 c row column) +ℤ pos (4096 * depth k)) <ℤ pos (2 ^ 31)
+        → (xs ys : List Block) → length xs ≤ 4096 → AllSized k xs → List·Permᴰ xs ys
+        → sumAt (fedAll (openedRun k signs mode c) ys) row column ≡ int32 (entryIn k 2 c row column) +ℤ total (contributions k signs mode row column xs)
+    one-bit-exact bit low xs ys n s d = runs.exact-total k signs mode c opened row column hr hc bit low xs ys (accepted-all xs .1 (n, s)) d n
+
+    -- So from 0 it is a count that stays below 2^21, whatever is fed.
+    pub one-bit-from-0 : Says (oneBit k) → entryIn k 2 c row column ≡ 0 → (xs : List Block) → length xs ≤ 4096 → AllSized k xs
+        → (n : ℕ) × (sumAt (fedAll (openedRun k signs mode c) xs) row column ≡ pos n) × (n < 2 ^ 21)
+    unfolding int32 value
+    one-bit-from-0 bit none xs n s =
+        let few = depth-le k (ready .of) bit in
+        let most = 4096 * depth k in
+        let t = runs.counted-total k signs mode c opened row column hr hc bit xs in
+        let low = subst (λ (z : ℤ). z <ℤ pos (2 ^ 31)) (sym (from-none (pos most))) (ltZ-yes (lt→ltb most (2 ^ 31) (omega arith))) in (
+          t .0,
+          one-bit-exact bit low xs xs n s (Permᴰ·refl xs) ∙ from-none (total (contributions k signs mode row column xs)) ∙ t .1,
+          omega (arith, le-trans (t .2) (mul-le-mul {n₁ = length xs} {m₁ = depth k} {n₂ = 4096} {m₂ = 256} n few)),
+        )
+      where
+        from-none : (z : ℤ) → int32 (entryIn k 2 c row column) +ℤ z ≡ z
+        from-none z = ap (λ (w : ℕ). int32 w +ℤ z) none ∙ +ℤ-idl z
 
     -- 'with saturation, where no contribution to a place is negative or none is positive, the exact total clamped, in every order'
     pub clamped-total : Says (integer k) → mode ≡ 1 → (xs ys : List Block) → length xs ≤ 4096 → AllSized k xs

@@ -53,6 +53,12 @@ perm-length (List·Permᴰ·cons e d) = ap suc (perm-length d)
 perm-length (List·Permᴰ·swap e f) = refl
 perm-length (List·Permᴰ·trans d e) = perm-length d ∙ perm-length e
 
+-- each block adds one number
+pub adds-length : (k signs mode row column : ℕ) (xs : List Block) → length (contributions k signs mode row column xs) ≡ length xs
+unfolding contributions
+adds-length k signs mode row column [] = refl
+adds-length k signs mode row column (x ∷ xs) = ap suc (adds-length k signs mode row column xs)
+
 module _ (k signs mode : ℕ) (ok : Ready k signs mode) where
   abbrev N : ℕ
   N = wordsNeeded k 2

@@ -4,16 +4,20 @@ use mathlib.Core.Path.{_≡_, refl, sym, ap, ap₂, subst, _∙_}
 use mathlib.Core.Bool.{Bool, true, false}
 use mathlib.Core.Logic.{_⊎_, inl, inr}
 use mathlib.Core.List.{List, [], _∷_, List·Permᴰ}
-use Prim.Native.Nat.{ℕ, _+_, _^_, _<_}
+use Prim.Native.Nat.{ℕ, _+_, _*_, _^_, _<_, _≤_}
+use native.Mathlib.Nat.{le-trans, mul-le-mul-right}
 use native.Mathlib.Omega.{arith}
 use borrow.Author.Tests.{le-leb}
-use lib.IntN.{ℤ, _+ℤ_}
+use lib.IntN.{ℤ, pos, _+ℤ_}
+use lib.Signed.{_<ℤ_}
 use lib.ListN.{length, take, drop}
 use lib.Seq.{take-at}
 use Rattle.laws.specs.Choice.{if_then_else_}
 use Rattle.laws.specs.Integers.{int32, clamp}
-use Rattle.laws.specs.Totals.{total, clampedEach, NoneNegative, NonePositive, Wraps}
-use Rattle.laws.proofs.Totals.{wrappedBy, clampedBy, fed-wraps, fed-up, fed-down, fed-clamped}
+use Rattle.laws.specs.Bits.{onesIn}
+use Rattle.laws.specs.Totals.{total, clampedEach, All, NoneNegative, NonePositive, Wraps}
+use Rattle.laws.proofs.Bits.{ones-le}
+use Rattle.laws.proofs.Totals.{wrappedBy, clampedBy, Counts, total-perm, total-counts, fed-wraps, fed-exact, fed-up, fed-down, fed-clamped}
 use Rattle.kinds.specs.Kinds.{oneBit, integer}
 use Rattle.answers.specs.Refusals.{Answer, given, refusal, after}
 use Rattle.answers.proofs.Shows.{deny}
@@ -21,7 +25,7 @@ use Rattle.answers.specs.Tests.{Says, holds}
 use Rattle.answers.proofs.Words.{says}
 use Rattle.kinds.proofs.Table.{not-one-bit}
 use Rattle.buffers.specs.Buffers.{wordsNeeded}
-use Rattle.step_work.specs.Step.{entryIn, depth, limit}
+use Rattle.step_work.specs.Step.{entryIn, depth, combinedBits, added, limit}
 use Rattle.step_work.specs.Workers.{Ready}
 use Rattle.step_work.proofs.Matrices.{entry-lt}
 use Rattle.step.proofs.Promises.{rowsD, columnsD, same-added}
@@ -30,7 +34,7 @@ use Rattle.run.specs.Runs.{runOf, zeros, withUsed, usedOf, openedRun, fe
 use Rattle.run.specs.RunCalls.{badRun, openAnswer, feedAnswer}
 use Rattle.run.specs.Blocks.{Block, fedBy, fedAll, AllAccepted, kept, acceptedOf, contributions, sumAt}
 use Rattle.run.proofs.Laws.{open-accepted, sound-back}
-use Rattle.run.proofs.Demand.{fedCell, wraps-each, clamps-each, fed-at, fed-kept, accepted-order, added-perm}
+use Rattle.run.proofs.Demand.{fedCell, wraps-each, clamps-each, fed-at, fed-kept, accepted-order, added-perm, adds-length}
 
 -- a newly opened run of kind k, and a place of D
 module _ (k signs mode : ℕ) (c : List ℕ) (accepted : openAnswer k signs mode (length c) ≡ given tt) where
@@ -79,14 +83,41 @@ module _ (k signs mode : ℕ) (c : List ℕ) (accepted : openAnswer k signs mode
         either false = e
     wrapping (inr e) = simp (says (oneBit k) .1 e)
 
+    word-at : (mode ≡ 0) ⊎ Says (oneBit k) → (xs : List Block) → AllAccepted (openedRun k signs mode c) xs
+        → sumAt (fedAll (openedRun k signs mode c) xs) row column ≡ int32 (wrappedBy from (adds xs))
+    word-at w xs a = sum-is xs a ∙ ap (λ (m : ℕ). int32 (fedCell m from (adds xs))) (wrapping w) ∙ ap int32 (wraps-each from (adds xs))
+
     pub wrapped-total : (mode ≡ 0) ⊎ Says (oneBit k) → (xs ys : List Block) → AllAccepted (openedRun k signs mode c) xs
         → List·Permᴰ xs ys
         → AllAccepted (openedRun k signs mode c) ys × Wraps (sumAt (fedAll (openedRun k signs mode c) ys) row column) (int32 from +ℤ total (adds xs))
     wrapped-total w xs ys a d =
         let b = order d a in
-        let e : sumAt (fedAll (openedRun k signs mode c) ys) row column ≡ int32 (wrappedBy from (adds ys))
-        = sum-is ys b ∙ ap (λ (m : ℕ). int32 (fedCell m from (adds ys))) (wrapping w) ∙ ap int32 (wraps-each from (adds ys)) in
-        (b, subst (λ (z : ℤ). Wraps z (int32 from +ℤ total (adds xs))) (sym e) (fed-wraps from (adds xs) (adds ys) from-lt (added-perm k signs mode ok row column d)))
+        (b, subst (λ (z : ℤ). Wraps z (int32 from +ℤ total (adds xs))) (sym (word-at w ys b)) (fed-wraps from (adds xs) (adds ys) from-lt (added-perm k signs mode ok row column d)))
+
+    -- Document 02, K5: a one-bit block adds a count from 0 to K; so from a start s with s + 4,096 times K below 2^31 the sum is the exact total, in every
+    -- order.
+    module _ (bit : Says (oneBit k)) where
+      counts : (xs : List Block) → Counts (depth k) (adds xs)
+      unfolding contributions added combinedBits All
+      counts [] = tt
+      counts (x ∷ xs) =
+          let bits = combinedBits k mode (x .a) (x .b) row column in
+          ((onesIn bits, simp (says (oneBit k) .1 bit), ones-le (depth k) _), counts xs)
+
+      pub counted-total : (xs : List Block) → (n : ℕ) × (total (adds xs) ≡ pos n) × (n ≤ length xs * depth k)
+      counted-total xs =
+          let t = total-counts (depth k) (adds xs) (counts xs) in
+          (t .0, t .1, subst (λ (m : ℕ). t .0 ≤ m * depth k) (adds-length k signs mode row column xs) (t .2))
+
+      pub exact-total : (int32 from +ℤ pos (4096 * depth k)) <ℤ pos (2 ^ 31) → (xs ys : List Block)
+          → AllAccepted (openedRun k signs mode c) xs → List·Permᴰ xs ys → length xs ≤ 4096
+          → sumAt (fedAll (openedRun k signs mode c) ys) row column ≡ int32 from +ℤ total (adds xs)
+      exact-total low xs ys a d few =
+          let t = counted-total xs in
+          let same = total-perm (added-perm k signs mode ok row column d) in
+          word-at (inr bit) ys (order d a)
+          ∙ fed-exact from (t .0) (4096 * depth k) (adds ys) from-lt (sym same ∙ t .1) (le-trans (t .2) (mul-le-mul-right (depth k) few)) low
+          ∙ ap (λ (z : ℤ). int32 from +ℤ z) (sym same)
 
     -- 'With saturation in the other kinds, where no block's contribution to a place is negative, or none is positive, it is that exact total
     -- clamped to 32 bits, again in every order.'

@@ -18,7 +18,7 @@ maxBlocks = 4096
 abbrev pub fullRun : Run → Test
 fullRun run = reaches (run .blocks) maxBlocks
 
--- 10: a run's kind is not arithmetic (1 to 5), its selectors break 4, or its count is over 4,096
+-- 10: a run's kind is not arithmetic (1 to 5, 11 to 14), its selectors break 4, or its count is over 4,096
 abbrev pub badRun : Run → Test
 badRun run = either (unready (kindIn run) (signsIn run) (modeIn run)) (over (run .blocks) maxBlocks)
 

@@ -14,7 +14,7 @@ use Rattle.step_work.specs.Step.{stepped}
 abbrev pub notArithmetic : (kind : ℕ) → Test
 notArithmetic kind = unless (arithmetic kind)
 
--- 4: signs over 3, mode over 1, or the one-bit kind with signs not 0
+-- 4: signs over 3, mode over 1, or a one-bit kind (1, 13, 14) with signs not 0
 abbrev pub badSelectors : (kind signs mode : ℕ) → Test
 badSelectors kind signs mode = either (either (over signs 3) (over mode 1)) (both (oneBit kind) (differs signs 0))
 

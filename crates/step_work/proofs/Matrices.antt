@@ -13,7 +13,7 @@ use Rattle.laws.proofs.Every.{all}
 use Rattle.laws.proofs.Fields.{field-lt, field-joined}
 use Rattle.laws.proofs.Lists.{length-tab, getD-tab, tab-ext}
 use Rattle.laws.proofs.Integers.{word-lt}
-use Rattle.kinds.specs.Kinds.{lanes, entryOf, roleOf, rows, columns, kinds, oneBitElement, int8Element, int4Element, integer, Legal, Arithmetic}
+use Rattle.kinds.specs.Kinds.{lanes, entryOf, roleOf, sumBits, rows, columns, kinds, oneBitElement, int8Element, int4Element, integer, Legal, Arithmetic}
 use Rattle.kinds.specs.Rule.{sideOf, elementsOf, rowsOf, columnsOf, laneOf, elementOf, major, minor, placeIn, holderOf}
 use Rattle.kinds.specs.Workers.{Laid}
 use Rattle.answers.specs.Tests.{Says}
@@ -50,8 +50,8 @@ module _ (k : ℕ) (ok : Arithmetic k) where
   le-test f g t = among-≤ k (ok .low) (ok .high) oneBitElement int4Element (ok .is) f g t
 
   -- a C or D element is a word, and a lane holds a pair of them for each half of eight rows
-  pub sum-bits : e .sums ≡ 32
-  sum-bits = eq-test (λ e. e .sums) (λ e. 32) tt
+  pub sum-bits : sumBits (e .element) ≡ 32
+  sum-bits = eq-test (λ e. sumBits (e .element)) (λ e. 32) tt
 
   pub pairs : e .c ≡ 2 * (e .m / 8)
   pairs = eq-test (λ e. e .c) (λ e. 2 * (e .m / 8)) tt
@@ -76,26 +76,30 @@ module _ (k : ℕ) (ok : Arithmetic k) where
   pub words-pos : 0 < e .c
   words-pos = le-test (λ e. 1) (λ e. e .c) tt
 
-  -- the digits of A and of B have room
+  -- an element of A and B has at most a byte
   pub bits-pos : 0 < e .bits
   bits-pos = le-test (λ e. 1) (λ e. e .bits) tt
 
   pub bits-le : e .bits ≤ 8
   bits-le = le-test (λ e. e .bits) (λ e. 8) tt
 
-  -- the integer kinds are shallow
-  pub depth-small : Says (integer k) → depth k ≤ 64
-  depth-small two = among-≤ k (ok .low) (ok .high) int8Element int4Element two (λ e. e .k) (λ e. 64) tt
+  -- the integer kinds are shallow, and there is room for their digits
+  module _ (two : Says (integer k)) where
+    integer-test : (f g : Entry → ℕ) → T (all kinds (among int8Element int4Element (λ e. leb (f e) (g e)))) → f e ≤ g e
+    integer-test f g t = among-≤ k (ok .low) (ok .high) int8Element int4Element two f g t
+
+    pub depth-small : depth k ≤ 64
+    depth-small = integer-test (λ e. e .k) (λ e. 64) tt
+
+    pub room-A : e .m / 8 * 8 * depth k ≤ 1024
+    room-A = integer-test (λ e. e .m / 8 * 8 * e .k) (λ e. 1024) tt
+
+    pub room-B : e .n / 8 * 8 * depth k ≤ 1024
+    room-B = integer-test (λ e. e .n / 8 * 8 * e .k) (λ e. 1024) tt
 
   -- there are at most two halves of eight rows
   pub halves-le : e .m / 8 ≤ 2
   halves-le = le-test (λ e. e .m / 8) (λ e. 2) tt
-
-  pub room-A : e .m / 8 * 8 * depth k ≤ 1024
-  room-A = le-test (λ e. e .m / 8 * 8 * e .k) (λ e. 1024) tt
-
-  pub room-B : e .n / 8 * 8 * depth k ≤ 1024
-  room-B = le-test (λ e. e .n / 8 * 8 * e .k) (λ e. 1024) tt
 
   -- A and B by the words that hold them
   pub entry-A : (ws : List ℕ) (row kk : ℕ) → row < e .m / 8 * 8 → kk < depth k

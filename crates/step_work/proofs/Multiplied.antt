@@ -108,8 +108,8 @@ module _ (k signs mode : ℕ) (ok : Ready k signs mode) (two : Says (integer k))
         bits-le k o,
         bits-pos k o,
         refl,
-        subst (λ (n : ℕ). entryOf k .m / 8 * 8 * n ≤ 1024) d (room-A k o),
-        subst (λ (n : ℕ). entryOf k .n / 8 * 8 * n ≤ 1024) d (room-B k o),
+        subst (λ (n : ℕ). entryOf k .m / 8 * 8 * n ≤ 1024) d (room-A k o two),
+        subst (λ (n : ℕ). entryOf k .n / 8 * 8 * n ≤ 1024) d (room-B k o two),
         omega (arith, d, depth-small k o two),
       )
 

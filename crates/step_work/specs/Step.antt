@@ -1,4 +1,4 @@
--- Document 01, 'One step'. Assumes nothing.
+-- Document 01, 'One step', and document 02, K5: 13 and 14 take modes and signs as kind 1 does. Assumes nothing.
 use Prim.Native.Nat.{ℕ, _*_, _-_, _^_}
 use mathlib.Core.Bool.{Bool, _||_}
 use mathlib.Core.List.{List}
@@ -36,7 +36,7 @@ unfoldable pub products : (kind signs : ℕ) → (a b : List ℕ) → (row colum
 products kind signs a b row column =
     sumZ (depth kind) (λ k. value (unsignedA signs) (signWeight kind) (entryIn kind 0 a row k) *ℤ value (unsignedB signs) (signWeight kind) (entryIn kind 1 b k column))
 
--- In the one-bit kind mode 0 is xor, mode 1 is and: the K combined bits, of which the ones are counted.
+-- In the one-bit kinds mode 0 is xor, mode 1 is and: the K combined bits, of which the ones are counted.
 unfoldable pub combinedBits : (kind mode : ℕ) → (a b : List ℕ) → (row column : ℕ) → List ℕ
 combinedBits kind mode a b row column = tab (depth kind) (λ k. combine mode (entryIn kind 0 a row k) (entryIn kind 1 b k column))
 

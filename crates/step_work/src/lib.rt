@@ -68,13 +68,22 @@ fn multiply(kind: Kind, signs: Signs, mode: Mode, a: &[u32], b: &[u32], c: &[u32
     step_products::cells(l, mode, h, &x, &y, c, d);
 }
 
-// The one-bit kind.
-fn count(kind: Kind, mode: Mode, a: &[u32], b: &[u32], c: &[u32], d: &mut [u32])
-    requires { ⌜ Arithmetic (kind .0) × Says (oneBit (kind .0)) × (mode .0 ≤ 1) ⌝ }
+// The one-bit kinds. Their spans and halves are written out, so that the compiler makes a loop of each. With one word a lane the words lie in lines
+// as they are.
+fn count(kind: Kind, line: Entry, mode: Mode, a: &[u32], b: &[u32], c: &[u32], d: &mut [u32])
+    requires { ⌜ Arithmetic (kind .0) × Says (oneBit (kind .0)) × (mode .0 ≤ 1) × (line ≡ entryOf (kind .0)) ⌝ }
     requires { ⌜ Sized (kind .0) (length (now a)) (length (now b)) (length (now c)) (length (now d)) ⌝ }
     ensures { λ _. ⌜ now (d .exit) ≡ stepped (kind .0) 0 (mode .0) (now (a .entry)) (now (b .entry)) (now (c .entry)) ⌝ }
 {
-    step_ones::cells(mode, a, b, c, d);
+    if line.m == 8 {
+        step_ones::cells(1, 1, mode, a, b, c, d);
+        return;
+    }
+    if line.b == 1 {
+        step_ones::cells_in_lines(1, 2, mode, a, b, c, d);
+        return;
+    }
+    step_ones::cells_in_lines(2, 2, mode, a, b, c, d);
 }
 
 // The words of D, for numbers and lengths that were judged: the worker of a step and of a run's feed.
@@ -94,7 +103,7 @@ pub fn work(
         (now (c .entry)) ⌝ }
 {
     if line.element == Entry::ONE_BIT {
-        count(kind, mode, a, b, c, d);
+        count(kind, line, mode, a, b, c, d);
         return;
     }
     multiply(kind, signs, mode, a, b, c, d);

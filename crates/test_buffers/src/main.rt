@@ -13,6 +13,7 @@ const PRIME: u64 = 4294967291;
 fn main() {
     arithmetic_kinds();
     other_kinds();
+    later_kinds();
     template(64, 256);
     refusals();
     wide_entries();
@@ -55,9 +56,24 @@ fn other_kinds() {
     round(10, 2, 128, 64);
 }
 
+fn later_kinds() {
+    round(11, 0, 32, 128);
+    round(11, 1, 32, 128);
+    round(11, 2, 64, 64);
+    round(12, 0, 32, 256);
+    round(12, 1, 32, 256);
+    round(12, 2, 64, 64);
+    round(13, 0, 64, 2048);
+    round(13, 1, 32, 1024);
+    round(13, 2, 128, 128);
+    round(14, 0, 128, 4096);
+    round(14, 1, 64, 2048);
+    round(14, 2, 128, 128);
+}
+
 fn refusals() {
     round(0, 0, 128, 512);
-    trial(Case(11, 3, 127, 511), Spoiled(256, 5, 6));
+    trial(Case(15, 3, 127, 511), Spoiled(256, 5, 6));
     trial(Case(4294967295, 0, 128, 512), Spoiled(256, 5, 6));
     trial(Case(3, 3, 127, 511), Spoiled(256, 5, 6));
     round(3, 0, 127, 512);
@@ -79,6 +95,8 @@ fn wide_entries() {
     trial(Case(7, 2, 64, 128), Spoiled(65536, 127, 126));
     trial(Case(8, 0, 128, 128), Spoiled(4294967296, 64, 65));
     trial(Case(6, 2, 128, 128), Spoiled(18446744073709551615, 9, 8));
+    trial(Case(12, 1, 32, 256), Spoiled(16, 200, 201));
+    trial(Case(14, 0, 128, 4096), Spoiled(2, 4095, 4000));
 }
 
 fn template_refusals() {
@@ -101,7 +119,7 @@ fn round(kind: u32, role: u32, n: usize, entries: usize) {
 
 fn trial(case: Case, spoiled: Spoiled) {
     let mut words: [u32; 256] = [0; 256];
-    let mut matrix: [u64; 1024] = [0; 1024];
+    let mut matrix: [u64; 4096] = [0; 4096];
     trial_cut(case, spoiled, &mut words, &mut matrix);
 }
 

@@ -1,4 +1,5 @@
-// Works out document 01's bench figures on places and steps through the public calls, in the paper's order, one of them by the plain step too.
+// Works out document 01's bench figures on places and steps through the public calls, in the paper's order, one of them by the plain step too; then
+// figures of document 02's kinds 11 to 14.
 use answers::Verdict;
 use kinds::Column;
 use kinds::Element;
@@ -22,6 +23,9 @@ fn main() {
     bytes();
     ones();
     signs();
+    later_places();
+    later_bytes();
+    later_ones();
 }
 
 fn places() {
@@ -67,6 +71,35 @@ fn ones() {
 fn signs() {
     signs_step(b"kind 2, A all FF, B all 1, C 0, signs 0: ", 0);
     signs_step(b"kind 2, A all FF, B all 1, C 0, signs 1: ", 1);
+}
+
+fn later_places() {
+    place(14, Role::A, 31, 127);
+    place(13, Role::A, 5, 33);
+    place(12, Role::B, 31, 7);
+}
+
+fn later_bytes() {
+    narrow_step(
+        b"kind 11, all A and B -128, C 0, signed: ",
+        11,
+        0,
+        0x80808080,
+    );
+    narrow_step(b"kind 12, all A and B -8, C 0, signed: ", 12, 0, 0x88888888);
+    narrow_step(
+        b"kind 12, all A and B F, C 0, unsigned: ",
+        12,
+        3,
+        0xFFFFFFFF,
+    );
+}
+
+fn later_ones() {
+    tall_step(b"kind 13, A all ones, B zero, C 0, xor: ", 0);
+    tall_step(b"kind 13, A all ones, B zero, C 0, and: ", 1);
+    long_step(b"kind 14, A all ones, B zero, C 0, xor: ", 0, 0);
+    long_step(b"kind 14, A and B all ones, C 0, and: ", 1, 0xFFFFFFFF);
 }
 
 fn place(kind: u32, role: u32, lane: u32, element: u32) {
@@ -159,6 +192,26 @@ fn signs_step(what: &[u8], signs: u32) {
         &[0; 128],
         &mut d,
     );
+}
+
+// Kinds 11 and 12, every word of A and B the same.
+fn narrow_step(what: &[u8], kind: u32, signs: u32, word: u32) {
+    let mut d: [u32; 64] = [7; 64];
+    print_text(what);
+    step(kind, signs, 0, &[word; 32], &[word; 32], &[0; 64], &mut d);
+}
+
+// Kind 13, and kind 14 with every word of B the same.
+fn tall_step(what: &[u8], mode: u32) {
+    let mut d: [u32; 128] = [7; 128];
+    print_text(what);
+    step(13, 0, mode, &[0xFFFFFFFF; 64], &[0; 32], &[0; 128], &mut d);
+}
+
+fn long_step(what: &[u8], mode: u32, b: u32) {
+    let mut d: [u32; 128] = [7; 128];
+    print_text(what);
+    step(14, 0, mode, &[0xFFFFFFFF; 128], &[b; 64], &[0; 128], &mut d);
 }
 
 fn step(kind: u32, signs: u32, mode: u32, a: &[u32], b: &[u32], c: &[u32], d: &mut [u32]) {

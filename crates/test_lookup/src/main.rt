@@ -1,4 +1,4 @@
-// What lookup prints at the corners: every kind 0 to 11 and role 0 to 3, with lanes 0, 31 and 32 and elements 0, the last, the next
+// What lookup prints at the corners: every kind 0 to 15 and role 0 to 3, with lanes 0, 31 and 32 and elements 0, the last, the next
 // and 255, each line after its record's four numbers.
 ghost use Prim.Native.Nat.{_<_};
 use test_print::print_number;
@@ -54,5 +54,9 @@ fn main() {
     roles(8, 3, 1, 3);
     roles(9, 3, 1, 3);
     roles(10, 0, 0, 1);
-    roles(11, 0, 0, 0);
+    roles(11, 3, 3, 1);
+    roles(12, 7, 7, 1);
+    roles(13, 63, 31, 3);
+    roles(14, 127, 63, 3);
+    roles(15, 0, 0, 0);
 }

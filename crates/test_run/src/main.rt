@@ -1,4 +1,4 @@
-// Shows runs: document 01's figures over 4,096 blocks, a clamped run in two orders, a run made up by hand, and each refusal.
+// Shows runs: document 01's figures over 4,096 blocks, the most ones of document 02's kind 14, a clamped run in two orders, a run made up by hand, and each refusal.
 use answers::Verdict;
 use kinds::Kind;
 use kinds::Mode;
@@ -217,6 +217,17 @@ fn print_ones(before: &[u8], run: Run) {
     print_run(before, run, &mut d);
 }
 
+// Kind 14: the most that 4,096 blocks count.
+fn most_ones() {
+    let mut d: [u32; 128] = [BEFORE; 128];
+    let run = opened(14, 0, &ZEROS);
+    print_run(
+        b"fed 4096 times: ",
+        fed(run, 4096, &[0xFFFF_FFFF; 128], &[0; 64]),
+        &mut d,
+    );
+}
+
 // The -128 block, 4,095 times, once more, and a further time.
 fn figures(mode: u32) {
     print_number(b"mode ", mode as u64);
@@ -260,15 +271,18 @@ fn open_cut(kind: u32, signs: u32, mode: u32, c: &[u32], n: usize) {
 
 fn open_refusals() {
     open_from(0, 0, 0, 128);
-    open_from(11, 0, 0, 128);
+    open_from(15, 0, 0, 128);
     open_from(6, 0, 0, 128);
     open_from(10, 0, 0, 128);
     open_from(3, 4, 0, 128);
     open_from(3, 0, 2, 128);
     open_from(1, 1, 0, 64);
+    open_from(13, 1, 0, 128);
+    open_from(14, 2, 1, 128);
     open_from(3, 0, 0, 127);
     open_from(1, 0, 0, 128);
-    open_from(11, 4, 2, 0);
+    open_from(11, 3, 1, 128);
+    open_from(15, 4, 2, 0);
     open_from(6, 4, 2, 0);
     open_from(5, 4, 2, 0);
     open_from(5, 3, 1, 0);
@@ -292,10 +306,11 @@ fn feed_cut(run: Run, words: &[u32], a: usize, b: usize) {
 fn feed_refusals() {
     feed_with(made(0, 0, 0, 0), 128, 64);
     feed_with(made(6, 0, 0, 0), 128, 64);
-    feed_with(made(11, 0, 0, 0), 128, 64);
+    feed_with(made(15, 0, 0, 0), 128, 64);
     feed_with(made(3, 4, 0, 0), 128, 64);
     feed_with(made(3, 0, 2, 0), 128, 64);
     feed_with(made(1, 1, 0, 0), 32, 32);
+    feed_with(made(13, 1, 0, 0), 64, 32);
     feed_with(made(3, 0, 0, 4097), 128, 64);
     feed_with(made(3, 0, 0, 4096), 128, 64);
     feed_with(made(3, 0, 0, 0), 127, 64);
@@ -304,6 +319,7 @@ fn feed_refusals() {
     feed_with(made(6, 4, 2, 4097), 64, 128);
     feed_with(made(3, 0, 0, 4096), 64, 128);
     feed_with(made(3, 0, 0, 4095), 128, 64);
+    feed_with(made(12, 3, 1, 0), 32, 32);
 }
 
 // A read into a D of so many words.
@@ -338,6 +354,8 @@ fn main() {
     print_text(b"kind 3, signs 0, C all 2147483547, block P adds 524288, block N adds -520192\n");
     orders(0);
     orders(1);
+    print_text(b"kind 14, signs 0, mode 0, C all 0, block: all A 1, all B 0\n");
+    most_ones();
     print_text(b"made up by hand: kind 1, mode 0, 7 blocks, all sums 5, block: all A 1, all B 0\n");
     by_hand();
     print_text(b"refusals, number and detail\n");

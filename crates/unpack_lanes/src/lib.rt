@@ -24,7 +24,7 @@ fn word(words: &[u32], k: usize) -> u64
 
 // The fields of a word, stored from base on, step apart.
 fn scatter(matrix: &mut [u64], word: u64, bits: usize, side: usize, base: usize, step: usize)
-    requires { ⌜ (bits * side ≤ 32) × (side ≤ 32) × (bits < 32) × (base < 524288) × (step ≤ 128) ⌝ }
+    requires { ⌜ (bits * side ≤ 32) × (side ≤ 32) × (bits < 32) × (base < 524288) × (step ≤ 256) ⌝ }
     requires { ⌜ ((j : ℕ) → j < side → base + j * step < length (now matrix)) ⌝ }
     ensures { λ _. ⌜ now (matrix .exit) ≡ stores base step side (λ j. field bits j word) (now (matrix .entry)) ⌝ }
 {

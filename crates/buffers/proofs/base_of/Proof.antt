@@ -69,10 +69,10 @@ module _ (c : tie.After-remainder2) where
   y-small = omega (arith, wide-small S span span-le, rest-small S by (c .remainder2 .result) (c .before .before .before .before .before .abreast .ensures .1 .0) (c .before .before .before .before .before .abreast .ensures .1 .1) (c .remainder2 .ensures))
 
   turned-small : y * columns + x < 262144
-  turned-small = omega (arith, mul-le-mul {n₁ = y} {m₁ = columns} {n₂ = 993} {m₂ = 128} y-small (c .before .before .before .before .before .before .before .columns-in .ensures .1), x-small)
+  turned-small = omega (arith, mul-le-mul {n₁ = y} {m₁ = columns} {n₂ = 993} {m₂ = 256} y-small (c .before .before .before .before .before .before .before .columns-in .ensures .1), x-small)
 
   straight-small : x * columns + y < 262144
-  straight-small = omega (arith, mul-le-mul {n₁ = x} {m₁ = columns} {n₂ = 15} {m₂ = 128} x-small (c .before .before .before .before .before .before .before .columns-in .ensures .1), y-small)
+  straight-small = omega (arith, mul-le-mul {n₁ = x} {m₁ = columns} {n₂ = 15} {m₂ = 256} x-small (c .before .before .before .before .before .before .before .columns-in .ensures .1), y-small)
 
   group-is : group ≡ r S / abreastIn (S .args .f)
   group-is = c .before .before .before .before .quotient .ensures ∙ ap (λ (a : ℕ). r S / a) (c .before .before .before .before .before .abreast .ensures .0)

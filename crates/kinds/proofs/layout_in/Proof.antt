@@ -4,7 +4,7 @@ use mathlib.Core.Path.{_≡_, refl, sym, subst, _∙_}
 use mathlib.Core.Bool.{true, false}
 use Prim.Native.Nat.{ℕ, _<_}
 use native.Mathlib.Omega.{arith}
-use Rattle.kinds.specs.Kinds.{roleOf}
+use Rattle.kinds.specs.Kinds.{sumBits, roleOf}
 use Rattle.kinds.specs.Rule.{sideOf, spread, layoutOf}
 use Rattle.kinds.specs.declared.Entry.{Entry}
 use Rattle.kinds.proofs.layout_in.Statement.{statement}
@@ -17,8 +17,8 @@ module _ (e : Entry) (r p : ℕ) where
   as-B : r ≡ 1 → p ≡ sideOf (e .bits) → spread (e .bits) (e .b) p (e .n) (e .k) true ≡ layoutOf e (roleOf r)
   as-B n s = rw (n, s) refl
 
-  as-C : r ≡ 2 → spread (e .sums) (e .c) 2 (e .m) (e .n) false ≡ layoutOf e (roleOf r)
-  as-C n = rw n refl
+  as-C : r ≡ 2 → p ≡ sumBits (e .element) → spread p (e .c) 2 (e .m) (e .n) false ≡ layoutOf e (roleOf r)
+  as-C n s = rw (n, s) refl
 
 side-of-requires : tie.Need-side-of-requires
 side-of-requires c κs = search needs
@@ -29,11 +29,14 @@ new-requires c κs = subst (λ (p : ℕ). 0 < p) (sym (c .side-of .ensures)) (c 
 returns : tie.Need-returns
 returns c = c .new .ensures ∙ as-B _ _ _ (c .before .before .if1 .taken) (c .before .side-of .ensures)
 
+sum-bits-requires : tie.Need-sum-bits-requires
+sum-bits-requires c κs = search needs
+
 new-requires-2 : tie.Need-new-requires-2
 new-requires-2 c κs = search needs
 
 returns-2 : tie.Need-returns-2
-returns-2 c = c .new2 .ensures ∙ as-C _ _ 2 (c .before .if2 .taken)
+returns-2 c = c .new2 .ensures ∙ as-C _ _ _ (c .before .before .if2 .taken) (c .before .sum-bits .ensures)
 
 side-of-requires-2 : tie.Need-side-of-requires-2
 side-of-requires-2 c κs = search needs
@@ -53,6 +56,7 @@ layout-in-spec =
     side-of-requires
     new-requires
     returns
+    sum-bits-requires
     new-requires-2
     returns-2
     side-of-requires-2

@@ -41,8 +41,8 @@ module _ (c : tie.In-loop Inv-loop μ-loop) where
   room : S .args .bits + S .args .bits * J ≤ 32
   room = omega (arith, mul-suc (S .args .bits) J, mul-le-mul-left (S .args .bits) (c .loop-test .taken), S .pre .0 .0)
 
-  offset : J * S .args .step ≤ 32 * 128
-  offset = mul-le-mul {n₁ = J} {m₁ = S .args .step} {n₂ = 32} {m₂ = 128} (omega arith) (omega arith)
+  offset : J * S .args .step ≤ 32 * 256
+  offset = mul-le-mul {n₁ = J} {m₁ = S .args .step} {n₂ = 32} {m₂ = 256} (omega arith) (omega arith)
 
   -- the number after a turn
   value : entries S J * 2 ^ (S .args .bits * J) % 2 ^ 64 + c .before .loop .sum ≡ joined (S .args .bits) (J + 1) (entries S)

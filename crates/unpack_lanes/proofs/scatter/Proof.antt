@@ -25,8 +25,8 @@ module _ (c : tie.In-loop Inv-loop μ-loop) where
   abbrev J : ℕ
   J = c .before .loop .j
 
-  offset : J * S .args .step ≤ 32 * 128
-  offset = mul-le-mul {n₁ = J} {m₁ = S .args .step} {n₂ = 32} {m₂ = 128} (omega arith) (omega arith)
+  offset : J * S .args .step ≤ 32 * 256
+  offset = mul-le-mul {n₁ = J} {m₁ = S .args .step} {n₂ = 32} {m₂ = 256} (omega arith) (omega arith)
 
   inside : S .args .base + J * S .args .step < length (c .before .loop .matrix)
   inside = omega (arith, S .pre .1 J (c .loop-test .taken), c .before .loop .inv .2)
