@@ -11,7 +11,7 @@ const FENCE: usize = 24;
 /// words allow.
 const SHIFTS: usize = 8;
 /// The longest buffer there is room for.
-pub const LONGEST: usize = 2600;
+pub const LONGEST: usize = 8400;
 
 /// Words shown of a buffer in a difference.
 const SHOWN: usize = 12;

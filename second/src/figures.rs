@@ -5,7 +5,7 @@ use crate::run::WORDS;
 use crate::wazimroot::Calls;
 
 /// Kind, role, lane, element; row, column.
-const PLACES: [([u32; 4], [u32; 2]); 9] = [
+const PLACES: [([u32; 4], [u32; 2]); 13] = [
     ([5, 0, 0, 16], [0, 32]),
     ([3, 0, 5, 9], [1, 21]),
     ([6, 0, 5, 1], [1, 3]),
@@ -16,6 +16,11 @@ const PLACES: [([u32; 4], [u32; 2]); 9] = [
     // From the lookup program's example.
     ([5, 0, 0x1f, 0x1f], [15, 63]),
     ([8, 0, 0x05, 0x01], [9, 1]),
+    // K5: "the third line of 01's lookup output becomes `0 0`", and places of the new kinds.
+    ([0x0b, 0, 0, 0], [0, 0]),
+    ([14, 0, 31, 127], [15, 255]),
+    ([13, 0, 5, 33], [9, 33]),
+    ([12, 1, 31, 7], [31, 7]),
 ];
 
 /// Kind, role, row, column; lane, element.
@@ -26,7 +31,7 @@ const MOST: u32 = 2_147_483_647;
 const LEAST_BYTES: u32 = 0x8080_8080;
 
 /// Kind, signs, mode; every word of A, B and C; every word of D.
-const STEPS: [([u32; 3], [u32; 3], i32); 8] = [
+const STEPS: [([u32; 3], [u32; 3], i32); 15] = [
     ([3, 0, 0], [LEAST_BYTES, LEAST_BYTES, 0], 524_288),
     ([3, 0, 0], [LEAST_BYTES, LEAST_BYTES, MOST], -2_146_959_361),
     ([3, 0, 1], [LEAST_BYTES, LEAST_BYTES, MOST], 2_147_483_647),
@@ -35,10 +40,24 @@ const STEPS: [([u32; 3], [u32; 3], i32); 8] = [
     ([1, 0, 0], [u32::MAX, 0, MOST], -2_147_483_521),
     ([2, 0, 0], [u32::MAX, 0x0101_0101, 0], -16),
     ([2, 1, 0], [u32::MAX, 0x0101_0101, 0], 4_080),
+    // K5's kinds.
+    ([11, 0, 0], [LEAST_BYTES, LEAST_BYTES, 0], 262_144),
+    ([12, 0, 0], [0x8888_8888, 0x8888_8888, 0], 2_048),
+    ([12, 3, 0], [u32::MAX, u32::MAX, 0], 7_200),
+    ([13, 0, 0], [u32::MAX, 0, 0], 128),
+    ([13, 0, 1], [u32::MAX, 0, 0], 0),
+    ([14, 0, 0], [u32::MAX, 0, 0], 256),
+    ([14, 0, 1], [u32::MAX, u32::MAX, 0], 256),
 ];
 
-/// Words of A, B and C of kinds 1 to 3, the kinds of the figures.
-const LENGTHS: [[usize; 3]; 3] = [[32, 32, 64], [64, 32, 128], [128, 64, 128]];
+/// Words of A, B and C of the kinds of the figures.
+fn lengths(kind: u32) -> [usize; 3] {
+    match kind {
+        1 | 11 | 12 => [32, 32, 64],
+        2 | 13 => [64, 32, 128],
+        _ => [128, 64, 128],
+    }
+}
 
 /// Size, byte-id; the numbers of one lane with the metadata word 807F0100.
 const SCALES: [(u32, u32, &[i32]); 5] = [
@@ -91,9 +110,9 @@ fn places(calls: &dyn Calls) -> Result<(), Difference> {
         equal(|| format!("find {numbers:?}"), (answer, out), (0, paper))?;
     }
     let mut out = [7; 2];
-    let answer = calls.place(0x0b, 0, 0, 0, &mut out);
+    let answer = calls.place(0x0f, 0, 0, 0, &mut out);
     equal(
-        || "place of kind 11".to_string(),
+        || "place of kind 15".to_string(),
         (answer, out),
         (1, [7; 2]),
     )
@@ -101,7 +120,7 @@ fn places(calls: &dyn Calls) -> Result<(), Difference> {
 
 fn steps(calls: &dyn Calls) -> Result<(), Difference> {
     for (selector, [a, b, c], paper) in STEPS {
-        let [na, nb, nc] = LENGTHS[selector[0] as usize - 1];
+        let [na, nb, nc] = lengths(selector[0]);
         let (a, b, c) = (vec![a; na], vec![b; nb], vec![c; nc]);
         let mut d = vec![!(paper as u32); nc];
         let figure = || format!("step {selector:?}");
@@ -140,7 +159,18 @@ fn runs(calls: &dyn Calls) -> Result<(), Difference> {
         let answer = calls.feed(&mut run, &a, &b);
         equal(figure, (answer, run), (9, full))?;
     }
-    Ok(())
+    most_ones(calls)
+}
+
+/// K5: kind 14, A all ones and B zero, fed 4,096 times from 0.
+fn most_ones(calls: &dyn Calls) -> Result<(), Difference> {
+    let mut run = [u32::MAX; WORDS];
+    let figure = || "run of kind 14".to_string();
+    accepted(figure, calls.open([14, 0, 0], &[0; 128], &mut run))?;
+    for _ in 0..4096 {
+        accepted(figure, calls.feed(&mut run, &[u32::MAX; 128], &[0; 64]))?;
+    }
+    run_sums(calls, &run, 1_048_576)
 }
 
 fn scales(calls: &dyn Calls) -> Result<(), Difference> {

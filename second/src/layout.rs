@@ -116,7 +116,7 @@ impl Layouts {
         Ok(Layouts { by_kind })
     }
 
-    /// The layout of a kind from 1 to 10 and a role from 0 to 2.
+    /// The layout of a kind from 1 to 14 and a role from 0 to 2.
     pub fn of(&self, kind: u32, role: u32) -> &Layout {
         &self.by_kind[kind as usize - 1][role as usize]
     }

@@ -2,7 +2,7 @@
 
 use crate::bits;
 use crate::layout::Layouts;
-use crate::rules::{A, ARITHMETIC, B, C, KINDS};
+use crate::rules::{A, ARITHMETIC, B, C, KINDS, ONE_BIT};
 use crate::run::{self, MAX_BLOCKS};
 
 /// Whether it applies, its number, its detail.
@@ -27,11 +27,12 @@ fn unknown_role(role: u32) -> Refusal {
 }
 
 fn not_arithmetic(kind: u32) -> Refusal {
-    (kind > ARITHMETIC && kind <= KINDS, 3, 0)
+    ((6..=10).contains(&kind), 3, 0)
 }
 
 fn selectors(kind: u32, signs: u32, mode: u32) -> Refusal {
-    (signs > 3 || mode > 1 || (kind == 1 && signs != 0), 4, 0)
+    let one_bit = ONE_BIT.contains(&kind);
+    (signs > 3 || mode > 1 || (one_bit && signs != 0), 4, 0)
 }
 
 /// Refusal 5. `needed` is `None` only where the kind or the role is unknown, which an earlier
@@ -106,7 +107,7 @@ pub fn open(layouts: &Layouts, selector: [u32; 3], nc: usize) -> u64 {
 /// Refusal 10.
 fn bad_run(run: &[u32; run::WORDS]) -> Refusal {
     let [kind, signs, mode, number] = run::head(run);
-    let known = (1..=ARITHMETIC).contains(&kind);
+    let known = ARITHMETIC.contains(&kind);
     let bad = !known || selectors(kind, signs, mode).0 || number > MAX_BLOCKS;
     (bad, 10, 0)
 }

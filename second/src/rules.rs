@@ -1,9 +1,11 @@
 //! The kinds and the places, each as the rules write it.
 
 pub const LANES: u32 = 32;
-pub const KINDS: u32 = 10;
-/// Kinds 1 to 5 are the arithmetic kinds.
-pub const ARITHMETIC: u32 = 5;
+pub const KINDS: u32 = 14;
+/// "Kinds 1 to 5 are the arithmetic kinds." K5: 11 to 14, "all four are arithmetic kinds".
+pub const ARITHMETIC: [u32; 9] = [1, 2, 3, 4, 5, 11, 12, 13, 14];
+/// Kind 1; K5: "13 and 14 take modes and signs as kind 1 does".
+pub const ONE_BIT: [u32; 3] = [1, 13, 14];
 
 pub const A: u32 = 0;
 pub const B: u32 = 1;
@@ -21,7 +23,7 @@ pub struct Kind {
     pub words: [u32; 3],
 }
 
-/// The table "Kinds"; `number` is 1 to 10.
+/// The table "Kinds", and K5's; `number` is 1 to 14.
 pub fn kind(number: u32) -> Kind {
     let (m, n, k, bits, words) = match number {
         1 => (8, 8, 128, 1, [1, 1, 2]),
@@ -34,6 +36,10 @@ pub fn kind(number: u32) -> Kind {
         8 => (16, 8, 8, 32, [4, 2, 4]),
         9 => (16, 8, 8, 64, [8, 4, 8]),
         10 => (8, 8, 4, 64, [2, 2, 4]),
+        11 => (8, 8, 16, 8, [1, 1, 2]),
+        12 => (8, 8, 32, 4, [1, 1, 2]),
+        13 => (16, 8, 128, 1, [2, 1, 4]),
+        14 => (16, 8, 256, 1, [4, 2, 4]),
         _ => unreachable!("kind {number}"),
     };
     Kind {
@@ -77,13 +83,15 @@ pub fn place(number: u32, role: u32, lane: u32, i: u32) -> (u32, u32) {
 
 fn row_a(number: u32, g: u32, i: u32) -> u32 {
     let upper = match number {
-        1 | 10 => true,
+        1 | 10 | 11 | 12 => true,
         2 => i < 4,
         3 => i < 4 || (8..12).contains(&i),
         4 => i < 8,
         5 => i < 8 || (16..24).contains(&i),
         6 | 7 => i < 2,
         8 | 9 => i % 2 == 0,
+        13 => i < 32,
+        14 => i < 32 || (64..96).contains(&i),
         _ => unreachable!("kind {number}"),
     };
     if upper {
@@ -104,6 +112,10 @@ fn column_a(number: u32, t: u32, i: u32) -> u32 {
         8 | 9 if i < 2 => t,
         8 | 9 => t + 4,
         10 => t,
+        11 => 4 * t + i,
+        12 => 8 * t + i,
+        13 => 32 * t + i % 32,
+        14 => 32 * t + i % 32 + if i >= 64 { 128 } else { 0 },
         _ => unreachable!("kind {number}"),
     }
 }
@@ -118,13 +130,17 @@ fn row_b(number: u32, t: u32, i: u32) -> u32 {
         6 | 7 => 2 * t + i,
         8 | 9 => t + 4 * i,
         10 => t,
+        11 => 4 * t + i,
+        12 => 8 * t + i,
+        13 => 32 * t + i,
+        14 => 32 * t + i % 32 + if i >= 32 { 128 } else { 0 },
         _ => unreachable!("kind {number}"),
     }
 }
 
 fn place_c(number: u32, g: u32, t: u32, i: u32) -> (u32, u32) {
     match number {
-        1 | 10 => (g, 2 * t + i),
+        1 | 10 | 11 | 12 => (g, 2 * t + i),
         _ if i < 2 => (g, 2 * t + i % 2),
         _ => (g + 8, 2 * t + i % 2),
     }

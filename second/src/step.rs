@@ -2,10 +2,10 @@
 
 use crate::bits;
 use crate::layout::Layouts;
-use crate::rules::{self, A, B, C};
+use crate::rules::{self, A, B, C, ONE_BIT};
 
 /// Entries of the greatest A or B of the arithmetic kinds.
-const MOST_ENTRIES: usize = 1024;
+const MOST_ENTRIES: usize = 4096;
 /// Entries of the greatest C.
 pub const SUMS: usize = 128;
 
@@ -25,11 +25,11 @@ fn number(pattern: u64, bits: usize, signed: bool) -> i64 {
 /// Whether A or B is signed: "0 both signed (two's complement), 1 A unsigned, 2 B unsigned, 3 both
 /// unsigned". One-bit elements are bare bits.
 pub fn signed(kind: u32, signs: u32, role: u32) -> bool {
-    match (kind, signs) {
-        (1, _) => false,
-        (_, 0) => true,
-        (_, 1) => role == B,
-        (_, 2) => role == A,
+    match signs {
+        _ if ONE_BIT.contains(&kind) => false,
+        0 => true,
+        1 => role == B,
+        2 => role == A,
         _ => false,
     }
 }
@@ -58,15 +58,15 @@ pub fn sums(layouts: &Layouts, kind: u32, words: &[u32]) -> [i64; SUMS] {
     sums
 }
 
-/// The exact sum over k at each place, row-major, without C: of the products, or in kind 1 of the
-/// combined bits that are ones.
+/// The exact sum over k at each place, row-major, without C: of the products, or in the one-bit kinds
+/// of the combined bits that are ones.
 pub fn contributions(layouts: &Layouts, selector: [u32; 3], a: &[u32], b: &[u32]) -> [i128; SUMS] {
     let [kind, _, mode] = selector;
     let a = numbers(layouts, selector, A, a);
     let b = numbers(layouts, selector, B, b);
-    match (kind, mode) {
-        (1, 0) => totals(kind, &a, &b, |a, b| i64::from(a != b)),
-        (1, _) => totals(kind, &a, &b, |a, b| i64::from(a == 1 && b == 1)),
+    match (ONE_BIT.contains(&kind), mode) {
+        (true, 0) => totals(kind, &a, &b, |a, b| i64::from(a != b)),
+        (true, _) => totals(kind, &a, &b, |a, b| i64::from(a == 1 && b == 1)),
         _ => totals(kind, &a, &b, |a, b| a * b),
     }
 }
@@ -91,9 +91,9 @@ fn totals(number: u32, a: &[i64], b: &[i64], term: impl Fn(i64, i64) -> i64) -> 
     totals
 }
 
-/// Kind 1 wraps; in the others mode 0 wraps and mode 1 clamps.
+/// The one-bit kinds wrap; in the others mode 0 wraps and mode 1 clamps.
 pub fn clamps(kind: u32, mode: u32) -> bool {
-    kind != 1 && mode == 1
+    !ONE_BIT.contains(&kind) && mode == 1
 }
 
 /// The exact result, wrapped to 32 bits or clamped, as a signed number.

@@ -52,7 +52,7 @@ impl Odds {
             7 => right + 1,
             8 => right.wrapping_sub(1),
             9 => random.draw() as u32,
-            _ => random.small(16),
+            _ => random.small(20),
         }
     }
 

@@ -15,7 +15,7 @@ pub mod trips;
 use crate::calls::Rules;
 use crate::random::Random;
 use crate::report::{Difference, Tally};
-use crate::rules::{A, ARITHMETIC, B, C};
+use crate::rules::{A, ARITHMETIC, B, C, ONE_BIT};
 use crate::values::Odds;
 use crate::wazimroot::Calls;
 
@@ -36,8 +36,9 @@ pub fn step_lengths(rules: &Rules, kind: u32) -> [usize; 4] {
 
 /// A selector of a step or run with which nothing is wrong: kind, signs, mode.
 pub fn right_selector(random: &mut Random) -> [u32; 3] {
-    let kind = 1 + random.small(ARITHMETIC);
-    let signs = if kind == 1 { 0 } else { random.small(4) };
+    let kind = random.pick(&ARITHMETIC);
+    let one_bit = ONE_BIT.contains(&kind);
+    let signs = if one_bit { 0 } else { random.small(4) };
     [kind, signs, random.small(2)]
 }
 
@@ -48,9 +49,10 @@ pub fn selector(random: &mut Random, odds: &Odds, right: [u32; 3]) -> [u32; 3] {
 
 /// Every selector with which nothing is wrong: kind, signs, mode.
 pub fn every_selector() -> Vec<[u32; 3]> {
-    let mut selectors = vec![[1, 0, 0], [1, 0, 1]];
-    for kind in 2..=ARITHMETIC {
-        for signs in 0..4 {
+    let mut selectors = Vec::new();
+    for kind in ARITHMETIC {
+        let most = if ONE_BIT.contains(&kind) { 0 } else { 3 };
+        for signs in 0..=most {
             selectors.push([kind, signs, 0]);
             selectors.push([kind, signs, 1]);
         }

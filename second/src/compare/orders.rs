@@ -15,13 +15,16 @@ const SHORT: usize = 30;
 /// Feeds from one reading to the next.
 const READINGS: usize = 16;
 /// The runs of 4,096 blocks: kind, signs, mode, and whether each place gets one sign only.
-const LONG: [([u32; 3], bool); 6] = [
+const LONG: [([u32; 3], bool); 9] = [
     ([1, 0, 0], false),
     ([2, 1, 0], false),
     ([3, 0, 1], false),
     ([3, 2, 1], true),
     ([4, 3, 1], true),
     ([5, 0, 1], false),
+    ([11, 0, 1], false),
+    ([12, 1, 0], false),
+    ([14, 0, 0], false),
 ];
 
 /// The buffers of a run's calls.

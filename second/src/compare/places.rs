@@ -19,26 +19,33 @@ const GREAT_PLACES: [u32; 8] = [
     u32::MAX,
 ];
 
+/// Every matrix has no row or no column of these.
+const FAR: std::ops::Range<u32> = 24..255;
+
 /// A call, what its four numbers are, and itself.
 struct Call {
     name: &'static str,
     numbers: &'static str,
-    /// From 0 to here is the third number.
-    last: u32,
+    /// From 0 to here are the third and the fourth number.
+    last: [u32; 2],
+    /// Whether these two are outside like thousands of others, which need not all be asked.
+    one_of_many: fn(u32, u32) -> bool,
     ask: fn(&dyn Calls, [u32; 4], &mut [u32; 2]) -> u64,
 }
 
 const PLACE: Call = Call {
     name: "wz_place",
     numbers: "kind, role, lane, element",
-    last: 40,
+    last: [40, 140],
+    one_of_many: |_, _| false,
     ask: |calls, [kind, role, lane, element], out| calls.place(kind, role, lane, element, out),
 };
 
 const FIND: Call = Call {
     name: "wz_find",
     numbers: "kind, role, row, column",
-    last: 140,
+    last: [260, 260],
+    one_of_many: |row, column| FAR.contains(&row) && FAR.contains(&column),
     ask: |calls, [kind, role, row, column], out| calls.find(kind, role, row, column, out),
 };
 
@@ -60,12 +67,16 @@ fn every(bench: &mut Bench, call: &Call) -> Result<Tally, Difference> {
     bench.random = Random::named(bench.seed, call.name);
     let mut tally = Tally::new(call.name);
     let mut out = Fenced::new("out");
-    let fourth = range(140, &GREAT_PLACES);
-    for kind in range(12, &GREAT_KINDS) {
+    let [third_last, fourth_last] = call.last;
+    let fourth = range(fourth_last, &GREAT_PLACES);
+    for kind in range(16, &GREAT_KINDS) {
         for role in range(4, &GREAT_ROLES) {
-            for third in range(call.last, &GREAT_PLACES) {
+            for third in range(third_last, &GREAT_PLACES) {
                 out.lay(&mut bench.random, 2);
                 for &fourth in &fourth {
+                    if (call.one_of_many)(third, fourth) {
+                        continue;
+                    }
                     let answer = one(bench, &mut out, call, [kind, role, third, fourth]);
                     tally.count(answer.map_err(|it| it.within(call.name))?);
                 }
