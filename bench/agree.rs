@@ -29,7 +29,7 @@ fn same<T: PartialEq>(call: &str, calls: &[Table], told: impl Fn(&Table) -> T) {
 }
 
 fn unpacks(calls: &[Table], random: &mut Random) {
-    let (kind, role) = (random.below(12), random.below(4));
+    let (kind, role) = (random.below(16), random.below(4));
     let l = some_layout(kind, role);
     let n = some_length(random, l.warp_length());
     let words = random.words(n);
@@ -42,7 +42,7 @@ fn unpacks(calls: &[Table], random: &mut Random) {
 }
 
 fn packs(calls: &[Table], random: &mut Random) {
-    let (kind, role) = (random.below(12), random.below(4));
+    let (kind, role) = (random.below(16), random.below(4));
     let l = some_layout(kind, role);
     let m = some_length(random, l.matrix_length());
     let mut matrix = random.entries(m, l.bits);
@@ -99,7 +99,7 @@ fn scales(calls: &[Table], random: &mut Random) {
 
 /// Any layout where the kind or the role is none: the call is refused whatever the lengths are.
 fn some_layout(kind: u32, role: u32) -> Layout {
-    Layout::of(kind.clamp(1, 10), role.min(2))
+    Layout::of(kind.clamp(1, 14), role.min(2))
 }
 
 fn some_length(random: &mut Random, right: usize) -> usize {
@@ -114,11 +114,11 @@ fn some_length(random: &mut Random, right: usize) -> usize {
 /// Kind, signs and mode, mostly of the arithmetic kinds.
 fn some_selectors(random: &mut Random) -> [u32; 3] {
     let kind = match random.below(16) {
-        0 => random.below(12),
-        _ => 1 + random.below(5),
+        0 => random.below(16),
+        _ => [1, 2, 3, 4, 5, 11, 12, 13, 14][random.below(9) as usize],
     };
     let signs = match kind {
-        1 if random.below(4) > 0 => 0,
+        1 | 13 | 14 if random.below(4) > 0 => 0,
         _ => random.below(5),
     };
     let mode = match random.below(16) {

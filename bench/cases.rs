@@ -26,11 +26,11 @@ fn case(name: String, mut call: impl FnMut(&Table, usize) -> u64 + 'static) -> C
 }
 
 pub fn all(random: &mut Random) -> Vec<Case> {
-    let fragments = [1, 2, 3, 4, 5, 6, 8, 9, 10]
+    let fragments = [1, 2, 3, 4, 5, 6, 8, 9, 10, 11, 12, 13, 14]
         .map(|kind| (kind, 0))
         .into_iter()
         .chain([(3, 1), (3, 2)]);
-    let steps = [1, 2, 3, 4, 5]
+    let steps = [1, 2, 3, 4, 5, 11, 12, 13, 14]
         .into_iter()
         .map(|kind| (kind, 0))
         .chain([(3, 3)]);
@@ -129,7 +129,7 @@ fn fragment(kind: u32, role: u32) -> String {
 
 fn selectors(kind: u32, signs: u32, mode: u32) -> String {
     let read = ["", "A unsigned, ", "B unsigned, ", "unsigned, "][signs as usize];
-    let modes = if kind == 1 {
+    let modes = if [1, 13, 14].contains(&kind) {
         ["xor", "and"]
     } else {
         ["wraps", "clamps"]

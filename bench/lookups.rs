@@ -49,7 +49,7 @@ fn record(random: &mut Random) -> [u8; 4] {
     if random.below(16) == 0 {
         return random.word().to_le_bytes();
     }
-    let (kind, role) = (1 + random.below(10), random.below(3));
+    let (kind, role) = (1 + random.below(14), random.below(3));
     let elements = Layout::of(kind, role).elements() as u32;
     [kind, role, random.below(32), random.below(elements)].map(|number| number as u8)
 }

@@ -6,7 +6,7 @@
 
 enum { LANES = 32, QUAD = 4, HALF = 8, WORD_BITS = 32 };
 enum { ROLE_A, ROLE_B, ROLE_C };
-enum { KINDS_COUNT = 10, ARITHMETIC_KINDS = 5 };
+enum { KINDS_COUNT = 14 };
 
 /* The largest A and B of an integer step, and the columns that B and D have in every kind. */
 enum { MAX_M = 16, MAX_K = 64, N = 8 };
@@ -19,7 +19,8 @@ struct kind {
 static const struct kind KINDS[KINDS_COUNT] = {
     {8, 128, 1, 32, {1, 1, 2}}, {16, 16, 8, 32, {2, 1, 4}}, {16, 32, 8, 32, {4, 2, 4}}, {16, 32, 4, 32, {2, 1, 4}},
     {16, 64, 4, 32, {4, 2, 4}}, {16, 8, 16, 32, {2, 1, 4}}, {16, 8, 16, 16, {2, 1, 2}}, {16, 8, 32, 32, {4, 2, 4}},
-    {16, 8, 64, 64, {8, 4, 8}}, {8, 4, 64, 64, {2, 2, 4}},
+    {16, 8, 64, 64, {8, 4, 8}}, {8, 4, 64, 64, {2, 2, 4}},  {8, 16, 8, 32, {1, 1, 2}},  {8, 32, 4, 32, {1, 1, 2}},
+    {16, 128, 1, 32, {2, 1, 4}}, {16, 256, 1, 32, {4, 2, 4}},
 };
 
 /* How a matrix lies in the lanes: each lane has groups of elements that stand side by side, in a row of A and C, in a column of B. */
@@ -193,8 +194,12 @@ static void integer_step(uint32_t kind, uint32_t signs, uint32_t mode, const uin
             }
 }
 
-/* A quad's words are a row of A, or a column of B. */
-static void one_bit_step(uint32_t mode, const uint32_t *a, const uint32_t *b, const uint32_t *c, uint32_t *d) {
+static uint32_t ones_in(uint32_t mode, uint32_t x, uint32_t y) {
+    return (uint32_t)__builtin_popcount(mode == 0 ? x ^ y : x & y);
+}
+
+/* Kind 1: a quad's words are a row of A, or a column of B. */
+static void short_one_bit_step(uint32_t mode, const uint32_t *a, const uint32_t *b, const uint32_t *c, uint32_t *d) {
     struct layout l = layout_of(1, ROLE_C);
     for (size_t lane = 0; lane < LANES; lane++)
         for (size_t i = 0; i < l.words; i++) {
@@ -202,26 +207,53 @@ static void one_bit_step(uint32_t mode, const uint32_t *a, const uint32_t *b, co
             const uint32_t *left = a + at.row * QUAD, *right = b + at.column * QUAD;
             uint32_t ones = 0;
             for (size_t t = 0; t < QUAD; t++)
-                ones += (uint32_t)__builtin_popcount(mode == 0 ? left[t] ^ right[t] : left[t] & right[t]);
+                ones += ones_in(mode, left[t], right[t]);
             d[lane * l.words + i] = c[lane * l.words + i] + ones;
         }
 }
 
+/* Kinds 13 and 14: a lane has a word of A for each span of 128 columns and each half of its rows, and one of B for each span. */
+static void long_one_bit_step(uint32_t kind, uint32_t mode, const uint32_t *a, const uint32_t *b, const uint32_t *c, uint32_t *d) {
+    struct layout of_a = layout_of(kind, ROLE_A), of_b = layout_of(kind, ROLE_B), l = layout_of(kind, ROLE_C);
+    for (size_t lane = 0; lane < LANES; lane++)
+        for (size_t group = 0; group < l.groups; group++)
+            for (size_t i = 0; i < l.side; i++) {
+                struct place at = place_of(&l, lane, group, i);
+                size_t word = lane * l.words + group * l.side + i;
+                uint32_t ones = 0;
+                for (size_t span = 0; span < of_b.groups; span++)
+                    for (size_t t = 0; t < QUAD; t++)
+                        ones += ones_in(mode, a[(at.row % HALF * QUAD + t) * of_a.words + span * of_a.halves + at.row / HALF],
+                                        b[(at.column * QUAD + t) * of_b.words + span]);
+                d[word] = c[word] + ones;
+            }
+}
+
+static int is_one_bit(uint32_t kind) {
+    return KINDS[kind - 1].bits == 1;
+}
+
+static int is_arithmetic(uint32_t kind) {
+    return kind <= 5 || kind >= 11;
+}
+
 static void work(uint32_t kind, uint32_t signs, uint32_t mode, const uint32_t *a, const uint32_t *b, const uint32_t *c, uint32_t *d) {
     if (kind == 1)
-        one_bit_step(mode, a, b, c, d);
+        short_one_bit_step(mode, a, b, c, d);
+    else if (is_one_bit(kind))
+        long_one_bit_step(kind, mode, a, b, c, d);
     else
         integer_step(kind, signs, mode, a, b, c, d);
 }
 
 static int bad_selectors(uint32_t kind, uint32_t signs, uint32_t mode) {
-    return signs > 3 || mode > 1 || (kind == 1 && signs != 0);
+    return signs > 3 || mode > 1 || (is_one_bit(kind) && signs != 0);
 }
 
 static uint64_t judge_selectors(uint32_t kind, uint32_t signs, uint32_t mode) {
     if (kind < 1 || kind > KINDS_COUNT)
         return refusal(WZ_UNKNOWN_KIND, 0);
-    if (kind > ARITHMETIC_KINDS)
+    if (!is_arithmetic(kind))
         return refusal(WZ_NOT_ARITHMETIC, 0);
     if (bad_selectors(kind, signs, mode))
         return refusal(WZ_BAD_SELECTORS, 0);
@@ -254,7 +286,8 @@ enum { RUN_KIND, RUN_SIGNS, RUN_MODE, RUN_BLOCKS, RUN_SUMS };
 
 static int bad_run(const uint32_t *run) {
     uint32_t kind = run[RUN_KIND];
-    return kind < 1 || kind > ARITHMETIC_KINDS || bad_selectors(kind, run[RUN_SIGNS], run[RUN_MODE]) || run[RUN_BLOCKS] > WZ_MAX_BLOCKS;
+    return kind < 1 || kind > KINDS_COUNT || !is_arithmetic(kind) || bad_selectors(kind, run[RUN_SIGNS], run[RUN_MODE]) ||
+           run[RUN_BLOCKS] > WZ_MAX_BLOCKS;
 }
 
 uint64_t plain_c_open(uint32_t kind, uint32_t signs, uint32_t mode, const uint32_t *c, size_t nc, uint32_t run[WZ_RUN_WORDS]) {

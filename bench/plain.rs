@@ -17,8 +17,6 @@ const ROLE_A: usize = 0;
 const ROLE_B: usize = 1;
 const ROLE_C: usize = 2;
 
-const ARITHMETIC_KINDS: u32 = 5;
-
 // The largest A and B of an integer step, and the columns that B and D have in every kind.
 const MAX_M: usize = 16;
 const MAX_K: usize = 64;
@@ -43,7 +41,7 @@ const fn kind(m: usize, k: usize, bits: usize, sum_bits: usize, words: [usize; 3
     }
 }
 
-static KINDS: [Kind; 10] = [
+static KINDS: [Kind; 14] = [
     kind(8, 128, 1, 32, [1, 1, 2]),
     kind(16, 16, 8, 32, [2, 1, 4]),
     kind(16, 32, 8, 32, [4, 2, 4]),
@@ -54,6 +52,10 @@ static KINDS: [Kind; 10] = [
     kind(16, 8, 32, 32, [4, 2, 4]),
     kind(16, 8, 64, 64, [8, 4, 8]),
     kind(8, 4, 64, 64, [2, 2, 4]),
+    kind(8, 16, 8, 32, [1, 1, 2]),
+    kind(8, 32, 4, 32, [1, 1, 2]),
+    kind(16, 128, 1, 32, [2, 1, 4]),
+    kind(16, 256, 1, 32, [4, 2, 4]),
 ];
 
 /// How a matrix lies in the lanes: each lane has groups of elements that stand side by side, in a
@@ -275,8 +277,13 @@ fn integer_step(kind: u32, signs: u32, mode: u32, a: &[u32], b: &[u32], sums: &m
     }
 }
 
-/// A quad's words are a row of A, or a column of B. The sums are C before and D after.
-fn one_bit_step(mode: u32, a: &[u32], b: &[u32], sums: &mut [u32]) {
+fn ones_in(mode: u32, x: u32, y: u32) -> u32 {
+    let combined = if mode == 0 { x ^ y } else { x & y };
+    combined.count_ones()
+}
+
+/// Kind 1: a quad's words are a row of A, or a column of B. The sums are C before and D after.
+fn short_one_bit_step(mode: u32, a: &[u32], b: &[u32], sums: &mut [u32]) {
     let l = Layout::of(1, 2);
     for (lane, own) in sums.chunks_exact_mut(l.words).enumerate() {
         for (i, sum) in own.iter_mut().enumerate() {
@@ -284,30 +291,58 @@ fn one_bit_step(mode: u32, a: &[u32], b: &[u32], sums: &mut [u32]) {
             let left = &a[row * QUAD..][..QUAD];
             let right = &b[column * QUAD..][..QUAD];
             for (x, y) in left.iter().zip(right) {
-                let combined = if mode == 0 { x ^ y } else { x & y };
-                *sum = sum.wrapping_add(combined.count_ones());
+                *sum = sum.wrapping_add(ones_in(mode, *x, *y));
             }
         }
     }
 }
 
+/// Kinds 13 and 14: a lane has a word of A for each span of 128 columns and each half of its rows,
+/// and one of B for each span.
+fn long_one_bit_step(kind: u32, mode: u32, a: &[u32], b: &[u32], sums: &mut [u32]) {
+    let [of_a, of_b, l] = [0, 1, 2].map(|role| Layout::of(kind, role));
+    for (lane, own) in sums.chunks_exact_mut(l.words).enumerate() {
+        for (i, sum) in own.iter_mut().enumerate() {
+            let (row, column) = l.place(lane, i / l.side, i % l.side);
+            for span in 0..of_b.groups {
+                for t in 0..QUAD {
+                    let half = span * of_a.halves + row / HALF;
+                    let x = a[(row % HALF * QUAD + t) * of_a.words + half];
+                    let y = b[(column * QUAD + t) * of_b.words + span];
+                    *sum = sum.wrapping_add(ones_in(mode, x, y));
+                }
+            }
+        }
+    }
+}
+
+fn is_one_bit(kind: u32) -> bool {
+    KINDS[kind as usize - 1].bits == 1
+}
+
+fn is_arithmetic(kind: u32) -> bool {
+    kind <= 5 || kind >= 11
+}
+
 fn work(kind: u32, signs: u32, mode: u32, a: &[u32], b: &[u32], sums: &mut [u32]) {
     if kind == 1 {
-        one_bit_step(mode, a, b, sums)
+        short_one_bit_step(mode, a, b, sums)
+    } else if is_one_bit(kind) {
+        long_one_bit_step(kind, mode, a, b, sums)
     } else {
         integer_step(kind, signs, mode, a, b, sums)
     }
 }
 
 fn bad_selectors(kind: u32, signs: u32, mode: u32) -> bool {
-    signs > 3 || mode > 1 || (kind == 1 && signs != 0)
+    signs > 3 || mode > 1 || (is_one_bit(kind) && signs != 0)
 }
 
 fn judge_selectors(kind: u32, signs: u32, mode: u32) -> Judged {
     if !known_kind(kind) {
         return refused(UNKNOWN_KIND, 0);
     }
-    if kind > ARITHMETIC_KINDS {
+    if !is_arithmetic(kind) {
         return refused(NOT_ARITHMETIC, 0);
     }
     if bad_selectors(kind, signs, mode) {
@@ -366,7 +401,7 @@ impl Run {
     }
 
     fn judge(&self) -> Judged {
-        let known = self.kind >= 1 && self.kind <= ARITHMETIC_KINDS;
+        let known = known_kind(self.kind) && is_arithmetic(self.kind);
         if !known || bad_selectors(self.kind, self.signs, self.mode) || self.blocks > MAX_BLOCKS {
             return refused(BAD_RUN, 0);
         }
