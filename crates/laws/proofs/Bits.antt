@@ -78,17 +78,17 @@ both P a b c d (suc zero) (suc (suc y)) h k = absurd (no y k)
 bit< : (a i : ℕ) → a / 2 ^ i % 2 < 2
 bit< a i = omega arith
 
-pub ones-xor : (a b : ℕ) → a < 2 ^ 32 → b < 2 ^ 32 → ones (bitXor a b) ≡ sumN 32 (λ i. combine 0 (a / 2 ^ i % 2) (b / 2 ^ i % 2))
+pub ones-xor : (n a b : ℕ) → a < 2 ^ n → b < 2 ^ n → ones (bitXor a b) ≡ sumN n (λ i. combine 0 (a / 2 ^ i % 2) (b / 2 ^ i % 2))
 unfolding combine
-ones-xor a b ha hb =
-    ones-op bitXor differ refl xor-step (both (λ x y. differ x y < 2) (omega arith) (omega arith) (omega arith) (omega arith)) 32 a b ha hb
-    ∙ sum-cong 32 _ _ (λ i k. both (λ x y. differ x y ≡ combine 0 x y) refl refl refl refl _ _ (bit< a i) (bit< b i))
+ones-xor n a b ha hb =
+    ones-op bitXor differ refl xor-step (both (λ x y. differ x y < 2) (omega arith) (omega arith) (omega arith) (omega arith)) n a b ha hb
+    ∙ sum-cong n _ _ (λ i k. both (λ x y. differ x y ≡ combine 0 x y) refl refl refl refl _ _ (bit< a i) (bit< b i))
 
-pub ones-and : (a b : ℕ) → a < 2 ^ 32 → b < 2 ^ 32 → ones (bitAnd a b) ≡ sumN 32 (λ i. combine 1 (a / 2 ^ i % 2) (b / 2 ^ i % 2))
+pub ones-and : (n a b : ℕ) → a < 2 ^ n → b < 2 ^ n → ones (bitAnd a b) ≡ sumN n (λ i. combine 1 (a / 2 ^ i % 2) (b / 2 ^ i % 2))
 unfolding combine
-ones-and a b ha hb =
-    ones-op bitAnd min refl and-step (both (λ x y. min x y < 2) (omega arith) (omega arith) (omega arith) (omega arith)) 32 a b ha hb
-    ∙ sum-cong 32 _ _ (λ i k. both (λ x y. min x y ≡ combine 1 x y) refl refl refl refl _ _ (bit< a i) (bit< b i))
+ones-and n a b ha hb =
+    ones-op bitAnd min refl and-step (both (λ x y. min x y < 2) (omega arith) (omega arith) (omega arith) (omega arith)) n a b ha hb
+    ∙ sum-cong n _ _ (λ i k. both (λ x y. min x y ≡ combine 1 x y) refl refl refl refl _ _ (bit< a i) (bit< b i))
 
 -- combined bits are bits
 either-lt : (t : Bool) (x y : ℕ) → x < 2 → y < 2 → (if t then (x + y) % 2 else x * y) < 2

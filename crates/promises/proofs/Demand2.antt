@@ -226,13 +226,14 @@ module _ (k mode : ℕ) (known : Arithmetic k) (bit : Says (oneBit k)) (mode-le 
   unfolding combinedBits
   one-bit-wrapped-only w l h = steps.wrapped-only (entryIn k 2 c row column) w (pos (onesIn (combinedBits k mode a b row column))) l h ∙ sym bit-entry-is
 
--- Each count lies in 0 to K, which is 128 in kinds 1 and 13 and 256 in kind 14.
+-- Each count lies in 0 to K,
 pub count-le : (k mode : ℕ) (a b : List ℕ) (row column : ℕ)
     → onesIn (tab (depth k) (λ j. combine mode (entryIn k 0 a row j) (entryIn k 1 b j column))) ≤ depth k
 count-le k mode a b row column = ones-le (depth k) (λ j. combine mode (entryIn k 0 a row j) (entryIn k 1 b j column))
 
-pub depths : (depth 1 ≡ 128) × (depth 13 ≡ 128) × (depth 14 ≡ 256)
-depths = (refl, refl, refl)
+-- which is 128 in kind 1. Document 02, K5: '11, m8n8k16 int8', '12, m8n8k32 int4', '13, m16n8k128 one-bit', '14, m16n8k256 one-bit'.
+pub depths : (depth 1 ≡ 128) × (depth 11 ≡ 16) × (depth 12 ≡ 32) × (depth 13 ≡ 128) × (depth 14 ≡ 256)
+depths = (refl, refl, refl, refl, refl)
 
 -- 'Two accepted steps that agree in these agree in row r of D: no boat reaches another boat's row.'
 pub own-row : (k signs mode row : ℕ) (a a′ b b′ c c′ : List ℕ)

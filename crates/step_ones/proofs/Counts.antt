@@ -1,58 +1,69 @@
--- The ones of a row and a column, word by word; and the lines of a warp buffer hold its one-bit elements by major and minor number, since the words lie
--- by the rule as the elements do. Assumes nothing.
-use mathlib.Core.Path.{_≡_, sym, ap, ap₂, _∙_}
+-- The ones of a row and a column, pair by pair; and the words lie by the rule as the elements do, so that the bits of a row and a column are the one-bit
+-- elements of their places. Assumes nothing.
+use mathlib.Core.Path.{_≡_, sym, ap, ap₂, subst, _∙_}
 use mathlib.Core.List.{List, _++_}
 use Prim.Native.Nat.{ℕ, _+_, _*_, _/_, _%_, _^_, _<_, _≤_}
-use native.Mathlib.Nat.{one-mul, mul-le-mul, div-add-mod', mod-lt, div-lt-iff-lt-mul}
+use native.Mathlib.Nat.{one-mul, mul-le-mul, div-add-mod', mod-lt, div-lt-iff-lt-mul, zero-add}
 use native.Mathlib.Omega.{arith}
 use lib.Arith.{digits-lt, digits-div, digits-mod}
-use lib.IntN.{subℕ}
+use lib.IntN.{pos, subℕ}
 use lib.ListN.{length, getD, take, length-append}
 use lib.Seq.{take-at}
 use Rattle.laws.specs.Bits.{combine, onesIn, sumN}
-use Rattle.laws.specs.Fields.{field}
-use Rattle.laws.specs.Lists.{blocks}
-use Rattle.laws.proofs.Bits.{sum-cong, sum-split, ones-tab, combine-lt}
+use Rattle.laws.specs.Fields.{field, joined}
+use Rattle.laws.specs.Lists.{tab, fills, blocks}
+use Rattle.laws.proofs.Bits.{sum-cong, sum-split, ones-tab, ones-le, combine-lt}
 use Rattle.laws.proofs.Differences.{is-pos}
-use Rattle.laws.proofs.Lists.{length-tab, getD-tab, is-tab}
+use Rattle.laws.proofs.Fields.{field-field, field-joined, joined-two}
+use Rattle.laws.proofs.Lists.{length-tab, getD-tab, is-tab, tab-ext, fills-in}
 use Rattle.kinds.specs.Kinds.{lanes}
 use Rattle.kinds.specs.Rule.{laneOf, elementOf, major, minor}
-use Rattle.kinds.proofs.Digits.{lane-lt, element-lt}
+use Rattle.kinds.proofs.Digits.{lane-lt, element-lt, major-lt, minor-lt}
 use Rattle.buffers.specs.Buffers.{elementAt}
 use Rattle.buffers.proofs.Elements.{element-narrow}
 use Rattle.step_limit.specs.Limits.{cellOf}
-use Rattle.step_ones.specs.Combined.{bitIn, bitsOf, onesWord, wordAt, linesOf}
+use Rattle.step_ones.specs.Combined.{wordAt, linesOf, bitIn, bitOf, bitsOf, onesWord, onesWords, pairAt, Paired, placeAt, downBits, Summed, sumsWords}
 
-module _ (mode : ℕ) (x y : List ℕ) (i j : ℕ) where
+-- a bit of two words joined is a bit of one of them
+pair-bit : (f : ℕ → ℕ) → ((k : ℕ) → f k < 2 ^ 32) → (t : ℕ) → t < 64 → joined 32 2 f / 2 ^ t % 2 ≡ f (t / 32) / 2 ^ (t % 32) % 2
+unfolding field
+pair-bit f fit t l =
+    let whole : t / 32 * 32 + t % 32 ≡ t = omega arith in
+    sym (ap (λ (e : ℕ). joined 32 2 f / 2 ^ e % 2) (one-mul t))
+    ∙ ap (λ (e : ℕ). field 1 e (joined 32 2 f)) (sym whole)
+    ∙ sym (field-field 1 32 (t / 32) (t % 32) (joined 32 2 f) (omega arith))
+    ∙ ap (field 1 (t % 32)) (field-joined 32 2 f (λ k _. fit k) (t / 32) (omega arith))
+    ∙ ap (λ (e : ℕ). f (t / 32) / 2 ^ e % 2) (one-mul (t % 32))
+
+module _ (mode : ℕ) (x y : List ℕ) (i column : ℕ) where
   abbrev combined : ℕ → ℕ
-  combined k = combine mode (bitIn x i k) (bitIn y j k)
+  combined k = combine mode (bitIn x i k) (getD y (k / 64 * 8 + column) 0 / 2 ^ (k % 64) % 2)
 
-  ones-sum : (n : ℕ) → onesIn (bitsOf mode n x y i j) ≡ sumN (32 * n) combined
-  unfolding bitsOf
-  ones-sum n = ones-tab (32 * n) combined (λ k _. combine-lt mode _ _ (omega arith) (omega arith))
+  ones-sum : (n : ℕ) → onesIn (downBits mode n x y i column) ≡ sumN (64 * n) combined
+  unfolding downBits
+  ones-sum n = ones-tab (64 * n) combined (λ k _. combine-lt mode _ _ (omega arith) (omega arith))
 
-  -- one word more: w counts the ones of the two at q
-  pub ones-more : (q w : ℕ) → w ≡ sumN 32 (λ t. combine mode (getD x (i + q) 0 / 2 ^ t % 2) (getD y (j + q) 0 / 2 ^ t % 2))
-      → onesIn (bitsOf mode q x y i j) + w ≡ onesIn (bitsOf mode (q + 1) x y i j)
-  ones-more q w e =
-      ap₂ _+_ (ones-sum q) (e ∙ sum-cong 32 _ _ (λ t l. ap₂ (combine mode) (bit-at x i t l) (bit-at y j t l)))
-      ∙ sym (sum-split (32 * q) 32 combined)
-      ∙ sym (ap (λ (n : ℕ). sumN n combined) {x = 32 * (q + 1)} (omega arith))
+  -- one pair more: w counts the ones of the two at q
+  pub ones-more : ((k : ℕ) → getD x k 0 < 2 ^ 32) → (q w : ℕ)
+      → w ≡ sumN 64 (λ t. combine mode (pairAt x (i + 2 * q) / 2 ^ t % 2) (getD y (q * 8 + column) 0 / 2 ^ t % 2))
+      → onesIn (downBits mode q x y i column) + w ≡ onesIn (downBits mode (q + 1) x y i column)
+  ones-more fit q w e =
+      ap₂ _+_ (ones-sum q) (e ∙ sum-cong 64 _ _ (λ t l. ap₂ (combine mode) (row-bit t l) (column-bit t l)))
+      ∙ sym (sum-split (64 * q) 64 combined)
+      ∙ sym (ap (λ (n : ℕ). sumN n combined) {x = 64 * (q + 1)} (omega arith))
       ∙ sym (ones-sum (q + 1))
     where
-      bit-at : (x : List ℕ) (i t : ℕ) → t < 32 → getD x (i + q) 0 / 2 ^ t % 2 ≡ bitIn x i (32 * q + t)
-      bit-at x i t l =
-          let high : (32 * q + t) / 32 ≡ q = omega arith in
-          let low : (32 * q + t) % 32 ≡ t = omega arith in
-          rw (high, low)
+      row-bit : (t : ℕ) → t < 64 → pairAt x (i + 2 * q) / 2 ^ t % 2 ≡ bitIn x i (64 * q + t)
+      row-bit t l =
+          let at : i + 2 * q + t / 32 ≡ i + (64 * q + t) / 32 = omega arith in
+          let low : t % 32 ≡ (64 * q + t) % 32 = omega arith in
+          pair-bit (λ k. getD x (i + 2 * q + k) 0) (λ k. fit (i + 2 * q + k)) t l ∙ ap₂ (λ (n e : ℕ). getD x n 0 / 2 ^ e % 2) at low
 
--- word j of D from its row and column and the ones counted there
-pub word-is : (spans halves mode : ℕ) (x y c : List ℕ) (j row column n w : ℕ)
-    → row ≡ major 2 halves (j / (2 * halves)) (j % (2 * halves)) → column ≡ minor 2 halves (j / (2 * halves)) (j % (2 * halves))
-    → n ≡ onesIn (bitsOf mode (spans * 4) x y (row * (spans * 4)) (column * (spans * 4))) → w ≡ cellOf 0 (getD c j 0) (subℕ n 0)
-    → w ≡ blocks (2 * halves) (onesWord spans halves mode x y c) j
-unfolding onesWord
-word-is spans halves mode x y c j row column n w er ec en ew = cc (div-add-mod' j (2 * halves), is-pos n 0 n (omega arith))
+      column-bit : (t : ℕ) → t < 64 → getD y (q * 8 + column) 0 / 2 ^ t % 2 ≡ getD y ((64 * q + t) / 64 * 8 + column) 0 / 2 ^ ((64 * q + t) % 64) % 2
+      column-bit t l =
+          let high : (64 * q + t) / 64 ≡ q = omega arith in
+          let low : (64 * q + t) % 64 ≡ t = omega arith in
+          rw (high, low)
 
 pub few-words : (spans halves : ℕ) → spans ≤ 2 → halves ≤ 2 → spans * halves ≤ 4
 few-words spans halves hs hh = mul-le-mul {n₁ = spans} {m₁ = halves} {n₂ = 2} {m₂ = 2} hs hh
@@ -105,6 +116,62 @@ line-bit spans halves ws fit h0 x k hx hk =
     ∙ bit-is spans halves x q h0 hx hq ws fit (k % 32) (omega arith)
     ∙ ap (λ (k : ℕ). elementAt 1 (spans * halves) ws (laneOf 32 x k) (elementOf 32 halves x k)) whole
 
+-- and so is bit k of a column
+pub column-bit : (spans : ℕ) (b : List ℕ) → ((k : ℕ) → getD b k 0 < 2 ^ 32) → (column k : ℕ) → column < 8 → k < 32 * (spans * 4)
+    → bitOf spans b column k ≡ elementAt 1 spans b (laneOf 32 column k) (elementOf 32 1 column k)
+column-bit spans b fit column k hc hk =
+    let whole : 32 * (k / 32) + k % 32 ≡ k = omega arith in
+    let each : spans * 1 ≡ spans = omega arith in
+    bit-is spans 1 column (k / 32) (omega arith) (omega arith) (omega arith) b fit (k % 32) (omega arith)
+    ∙ ap₂ (λ (w k : ℕ). elementAt 1 w b (laneOf 32 column k) (elementOf 32 1 column k)) each whole
+
+-- the ones of a row and a column are few
+pub few-ones : (spans halves mode : ℕ) (x y s : List ℕ) → Summed spans halves mode x y s → spans ≤ 2 → (k : ℕ) → k < halves * 64 → getD s k 0 ≤ 256
+unfolding downBits
+few-ones spans halves mode x y s summed hs k l =
+    let whole : k / 8 * 8 + k % 8 ≡ k = omega arith in
+    let e = summed .at (k / 8) (k % 8) (omega arith) (omega arith) in
+    let most = ones-le (64 * (spans * 2)) (combined mode x y (k / 8 * (spans * 4)) (k % 8)) in
+    subst (λ (n : ℕ). getD s n 0 ≤ 256) whole (subst (λ (v : ℕ). v ≤ 256) (sym e) (omega (arith, most)))
+
+-- the ones by row and column, from B's pairs, are those of the combined bits
+module _ (spans halves mode : ℕ) (x b y s c : List ℕ) (fit : (k : ℕ) → getD b k 0 < 2 ^ 32) (paired : Paired spans b y) (summed : Summed spans halves mode x y s) where
+  downs-are : (row column : ℕ) → column < 8 → downBits mode (spans * 2) x y (row * (spans * 4)) column ≡ bitsOf spans mode x b row column
+  unfolding downBits bitsOf
+  downs-are row column hc =
+      tab-ext (64 * (spans * 2)) _ (λ k. combine mode (bitIn x (row * (spans * 4)) k) (bitOf spans b column k))
+      (λ k l. ap (combine mode (bitIn x (row * (spans * 4)) k)) (bit-down k l))
+    where
+      bit-down : (k : ℕ) → k < 64 * (spans * 2) → getD y (k / 64 * 8 + column) 0 / 2 ^ (k % 64) % 2 ≡ bitOf spans b column k
+      bit-down k l =
+          let at : 2 * (k / 64) + k % 64 / 32 ≡ k / 32 = omega arith in
+          let low : k % 64 % 32 ≡ k % 32 = omega arith in
+          ap (λ (w : ℕ). w / 2 ^ (k % 64) % 2) (paired .at (k / 64) column (omega arith) hc)
+          ∙ pair-bit (λ h. getD b (wordAt spans 1 column (2 * (k / 64) + h)) 0) (λ h. fit (wordAt spans 1 column (2 * (k / 64) + h))) (k % 64) (omega arith)
+          ∙ ap₂ (λ (n e : ℕ). getD b (wordAt spans 1 column n) 0 / 2 ^ e % 2) at low
+
+  pub sums-are : 0 < halves → sumsWords halves s c ≡ onesWords spans halves mode x b c
+  unfolding sumsWords onesWords onesWord
+  sums-are h0 =
+      let each = 2 * halves in
+      let two : 0 < 2 = omega arith in
+      let some : 0 < each = omega arith in
+      tab-ext (lanes * each) _ (blocks each (onesWord spans halves mode x b c))
+      (λ k l.
+      let hl = div-lt-iff-lt-mul some .1 l in
+      let hi = mod-lt k some in
+      let row = major 2 halves (k / each) (k % each) in
+      let column = minor 2 halves (k / each) (k % each) in
+      let hr = major-lt 2 halves two h0 (k / each) (k % each) hl in
+      let hc = minor-lt 2 halves two h0 1 (k / each) (k % each) (omega (arith, hi)) in
+      ap (λ (n : ℕ). cellOf 0 (getD c (k / each * each + k % each) 0) (pos n)) (summed .at row column hr hc ∙ ap onesIn (downs-are row column hc)))
+
+-- word j of D from the ones at its place
+pub word-is : (halves : ℕ) (s c : List ℕ) (j at n w : ℕ) → at ≡ placeAt halves (j / (2 * halves)) (j % (2 * halves)) → n ≡ getD s at 0
+    → w ≡ cellOf 0 (getD c j 0) (subℕ n 0)
+    → w ≡ blocks (2 * halves) (λ lane i. cellOf 0 (getD c (lane * (2 * halves) + i) 0) (pos (getD s (placeAt halves lane i) 0))) j
+word-is halves s c j at n w ea en ew = cc (div-add-mod' j (2 * halves), is-pos n 0 n (omega arith))
+
 -- a buffer of one word a lane lies in lines as it is
 pub lined : (ws : List ℕ) → length ws ≡ 32 → ws ≡ linesOf 1 1 ws
 unfolding linesOf laneOf elementOf
@@ -128,3 +195,14 @@ module _ (spans halves : ℕ) (ws xs rest : List ℕ) (e : xs ≡ linesOf spans 
 -- there is room for them
 pub room : (spans halves : ℕ) → spans ≤ 2 → halves ≤ 2 → halves * 8 * (spans * 4) ≤ 128
 room spans halves hs hh = mul-le-mul {n₁ = halves * 8} {m₁ = spans * 4} {n₂ = 16} {m₂ = 8} (omega arith) (omega arith)
+
+-- two words joined by the code
+pub joined-is : (f : ℕ → ℕ) (low high : ℕ) → low ≡ f 0 → high ≡ f 1 → high * 4294967296 + low ≡ joined 32 2 f
+joined-is f low high e g = ap₂ (λ (h l : ℕ). h * 4294967296 + l) g e ∙ sym (joined-two 32 f)
+
+-- what stands by block and place in a buffer that was filled from the front
+pub filled-at : (n w : ℕ) (g : ℕ → ℕ → ℕ) (xs : List ℕ) (a b : ℕ) → n * w ≤ length xs → a < n → b < w → getD (fills 0 (n * w) (blocks w g) xs) (a * w + b) 0 ≡ g a b
+filled-at n w g xs a b h ha hb =
+    ap (λ (i : ℕ). getD (fills 0 (n * w) (blocks w g) xs) i 0) (sym (zero-add (a * w + b)))
+    ∙ fills-in 0 (blocks w g) xs 0 (n * w) (a * w + b) (subst (λ (m : ℕ). m ≤ length xs) (sym (zero-add (n * w))) h) (digits-lt ha hb)
+    ∙ ap₂ g (digits-div a hb) (digits-mod a hb)

@@ -1,5 +1,5 @@
 -- The ones counted word by word are the ones among the combined bits of A's row and B's column, in every one-bit kind. Assumes nothing.
-use mathlib.Core.Path.{_≡_, sym, ap, ap₂, subst, _∙_}
+use mathlib.Core.Path.{_≡_, sym, ap, ap₂, _∙_}
 use mathlib.Core.List.{List}
 use Prim.Native.Nat.{ℕ, _+_, _*_, _/_, _%_, _^_, _<_, _≤_}
 use native.Mathlib.Nat.{div-lt-iff-lt-mul, mod-lt}
@@ -22,8 +22,8 @@ use Rattle.buffers.specs.Buffers.{elementAt}
 use Rattle.step_work.specs.Step.{entryIn, depth, combinedBits, added, resultAt, stepped}
 use Rattle.step_work.specs.Workers.{Sized}
 use Rattle.step_limit.specs.Limits.{cellOf}
-use Rattle.step_ones.specs.Combined.{bitIn, bitsOf, onesWord, onesWords, linesOf, Reaches}
-use Rattle.step_ones.proofs.Counts.{line-bit}
+use Rattle.step_ones.specs.Combined.{bitIn, bitOf, bitsOf, onesWord, onesWords, linesOf, Reaches}
+use Rattle.step_ones.proofs.Counts.{line-bit, column-bit}
 use Rattle.step_work.proofs.Matrices.{pairs, columns-half, halves-pos, halves-le, words-pos, entry-A, entry-B, entry-C, stepped-is}
 
 module _ (k : ℕ) (ok : Arithmetic k) (bit : Says (oneBit k)) where
@@ -50,8 +50,8 @@ module _ (k : ℕ) (ok : Arithmetic k) (bit : Says (oneBit k)) where
   words-A : e .a ≡ spans * halves
   words-A = eq-test (λ e. e .a) (λ e. e .b * (e .m / 8)) tt
 
-  deep : depth k ≡ 32 * (spans * 4)
-  deep = eq-test (λ e. e .k) (λ e. 32 * (e .b * 4)) tt
+  deep : depth k ≡ 64 * (spans * 2)
+  deep = eq-test (λ e. e .k) (λ e. 64 * (e .b * 2)) tt
 
   rows-are : e .m ≡ halves * 8
   rows-are = eq-test (λ e. e .m) (λ e. e .m / 8 * 8) tt
@@ -72,37 +72,31 @@ module _ (k : ℕ) (ok : Arithmetic k) (bit : Says (oneBit k)) where
   result-is mode a b c row column = simp (says (oneBit k) .1 bit)
 
   module _ (mode : ℕ) (a b c : List ℕ) (fit-a : (x : ℕ) → getD a x 0 < 2 ^ 32) (fit-b : (x : ℕ) → getD b x 0 < 2 ^ 32) (fit-c : (x : ℕ) → getD c x 0 < 2 ^ 32) where
-    -- A's words row by row, and B's column by column
+    -- A's words row by row
     abbrev x : List ℕ
     x = linesOf spans halves a
 
-    abbrev y : List ℕ
-    y = linesOf spans 1 b
-
-    abbrev n : ℕ
-    n = spans * 4
-
-    bit-A : (row j : ℕ) → row < halves * 8 → j < depth k → bitIn x (row * n) j ≡ entryIn k 0 a row j
+    bit-A : (row j : ℕ) → row < halves * 8 → j < depth k → bitIn x (row * (spans * 4)) j ≡ entryIn k 0 a row j
     bit-A row j hr h =
-        line-bit spans halves a fit-a (halves-pos k ok) row j hr (subst (λ (m : ℕ). j < m) deep h)
+        line-bit spans halves a fit-a (halves-pos k ok) row j hr (omega (arith, h, deep))
         ∙ sym (entry-A k ok a row j hr h
         ∙ ap₂ (λ (n w : ℕ). elementAt n w a (laneOf (sideOf n) row j) (elementOf (sideOf n) halves row j)) one-bit words-A)
 
-    bit-B : (j column : ℕ) → j < depth k → column < 8 → bitIn y (column * n) j ≡ entryIn k 1 b j column
+    bit-B : (j column : ℕ) → j < depth k → column < 8 → bitOf spans b column j ≡ entryIn k 1 b j column
     bit-B j column h hc =
-        line-bit spans 1 b fit-b (omega arith) column j (omega arith) (subst (λ (m : ℕ). j < m) deep h)
-        ∙ ap (λ (w : ℕ). elementAt 1 w b (laneOf 32 column j) (elementOf 32 1 column j)) {x = spans * 1} (omega arith)
+        column-bit spans b fit-b column j hc (omega (arith, h, deep))
         ∙ sym (entry-B k ok b j column h hc
         ∙ ap₂ (λ (n h : ℕ). elementAt n spans b (laneOf (sideOf n) column j) (elementOf (sideOf n) h column j)) one-bit (columns-half k ok))
 
-    bits-are : (row column : ℕ) → row < halves * 8 → column < 8 → bitsOf mode n x y (row * n) (column * n) ≡ combinedBits k mode a b row column
+    bits-are : (row column : ℕ) → row < halves * 8 → column < 8 → bitsOf spans mode x b row column ≡ combinedBits k mode a b row column
     unfolding bitsOf combinedBits
     bits-are row column hr hc =
-        ap (λ (m : ℕ). tab m (λ j. combine mode (bitIn x (row * n) j) (bitIn y (column * n) j))) (sym deep)
-        ∙ tab-ext (depth k) (λ j. combine mode (bitIn x (row * n) j) (bitIn y (column * n) j)) (λ j. combine mode (entryIn k 0 a row j) (entryIn k 1 b j column))
+        let bit : ℕ → ℕ = λ j. combine mode (bitIn x (row * (spans * 4)) j) (bitOf spans b column j) in
+        ap (λ (m : ℕ). tab m bit) (sym deep)
+        ∙ tab-ext (depth k) bit (λ j. combine mode (entryIn k 0 a row j) (entryIn k 1 b j column))
         (λ j h. ap₂ (combine mode) (bit-A row j hr h) (bit-B j column h hc))
 
-    word-is : (lane i : ℕ) → lane < lanes → i < e .c → onesWord spans halves mode x y c lane i ≡ resultAt k 0 mode a b c (major 2 halves lane i) (minor 2 halves lane i)
+    word-is : (lane i : ℕ) → lane < lanes → i < e .c → onesWord spans halves mode x b c lane i ≡ resultAt k 0 mode a b c (major 2 halves lane i) (minor 2 halves lane i)
     unfolding onesWord
     word-is lane i hl hi =
         let two : 0 < 2 = omega arith in
@@ -113,11 +107,11 @@ module _ (k : ℕ) (ok : Arithmetic k) (bit : Says (oneBit k)) where
         (ap onesIn (bits-are (major 2 halves lane i) (minor 2 halves lane i) row column))
         ∙ sym (result-is mode a b c (major 2 halves lane i) (minor 2 halves lane i))
 
-    words-are : onesWords spans halves mode x y c ≡ stepped k 0 mode a b c
+    words-are : onesWords spans halves mode x b c ≡ stepped k 0 mode a b c
     unfolding onesWords
     words-are =
-        ap (λ (w : ℕ). tab (lanes * w) (blocks w (onesWord spans halves mode x y c))) (sym (pairs k ok))
-        ∙ tab-ext (lanes * e .c) (blocks (e .c) (onesWord spans halves mode x y c)) (blocks (e .c) (λ lane i. resultAt k 0 mode a b c (major 2 halves lane i) (minor 2 halves lane i)))
+        ap (λ (w : ℕ). tab (lanes * w) (blocks w (onesWord spans halves mode x b c))) (sym (pairs k ok))
+        ∙ tab-ext (lanes * e .c) (blocks (e .c) (onesWord spans halves mode x b c)) (blocks (e .c) (λ lane i. resultAt k 0 mode a b c (major 2 halves lane i) (minor 2 halves lane i)))
         (λ x h. word-is (x / e .c) (x % e .c) (div-lt-iff-lt-mul (words-pos k ok) .1 h) (mod-lt x (words-pos k ok)))
         ∙ sym (stepped-is k ok 0 mode a b c)
 
@@ -153,6 +147,6 @@ module _ (k : ℕ) (ok : Arithmetic k) (bit : Says (oneBit k)) where
         )
 
     pub counted : (mode : ℕ) (a b c : List ℕ) → ((x : ℕ) → getD a x 0 < 2 ^ 32) → ((x : ℕ) → getD b x 0 < 2 ^ 32) → ((x : ℕ) → getD c x 0 < 2 ^ 32)
-        → onesWords s h mode (linesOf s h a) (linesOf s 1 b) c ≡ stepped k 0 mode a b c
+        → onesWords s h mode (linesOf s h a) b c ≡ stepped k 0 mode a b c
     counted mode a b c fit-a fit-b fit-c =
-        sym (ap₂ (λ (s h : ℕ). onesWords s h mode (linesOf s h a) (linesOf s 1 b) c) (known .0) (known .1)) ∙ words-are mode a b c fit-a fit-b fit-c
+        sym (ap₂ (λ (s h : ℕ). onesWords s h mode (linesOf s h a) b c) (known .0) (known .1)) ∙ words-are mode a b c fit-a fit-b fit-c

@@ -76,14 +76,14 @@ fn count(kind: Kind, line: Entry, mode: Mode, a: &[u32], b: &[u32], c: &[u32], d
     ensures { λ _. ⌜ now (d .exit) ≡ stepped (kind .0) 0 (mode .0) (now (a .entry)) (now (b .entry)) (now (c .entry)) ⌝ }
 {
     if line.m == 8 {
-        step_ones::cells(1, 1, mode, a, b, c, d);
+        step_ones::fill(1, 1, mode, a, b, c, d);
         return;
     }
     if line.b == 1 {
-        step_ones::cells_in_lines(1, 2, mode, a, b, c, d);
+        step_ones::fill_in_lines(1, 2, mode, a, b, c, d);
         return;
     }
-    step_ones::cells_in_lines(2, 2, mode, a, b, c, d);
+    step_ones::fill_in_lines(2, 2, mode, a, b, c, d);
 }
 
 // The words of D, for numbers and lengths that were judged: the worker of a step and of a run's feed.

@@ -1,6 +1,6 @@
 -- The kind's spans and halves are those written out, so its lengths are those asked for, and the words counted are the step's. Assumes nothing.
 use borrow.Author.Needs.{needs}
-use mathlib.Core.Path.{_≡_, sym, ap, ap₂, _∙_}
+use mathlib.Core.Path.{_≡_, sym, ap, _∙_}
 use mathlib.Core.List.{List}
 use Prim.Native.Nat.{ℕ, _*_, _/_}
 use denote.Ref.{now}
@@ -33,7 +33,7 @@ module _ (t : tie.After-struct-known) where
     asked =
         counts.asked k (S .pre .0 .0) (S .pre .0 .1) spans halves known (now (S .args .a)) (now (S .args .b)) (now (S .args .c)) (now (S .args .d)) (S .pre .1)
 
-    counted : onesWords spans halves (S .args .mode .0) (linesOf spans halves (now (S .args .a))) (linesOf spans 1 (now (S .args .b))) (now (S .args .c))
+    counted : onesWords spans halves (S .args .mode .0) (linesOf spans halves (now (S .args .a))) (now (S .args .b)) (now (S .args .c))
         ≡ stepped k 0 (S .args .mode .0) (now (S .args .a)) (now (S .args .b)) (now (S .args .c))
     counted =
         counts.counted k (S .pre .0 .0) (S .pre .0 .1) spans halves known _ _ _ _
@@ -56,21 +56,23 @@ long t =
     let s = S u in
     counts.long _ (s .pre .0 .0) (s .pre .0 .1) (λ e. t .before .before .if1 .left (rows-are u ∙ e)) (λ e. t .if2 .left (words-are u ∙ e))
 
-cells-requires : tie.Need-cells-requires
-cells-requires c κs =
+fill-requires : tie.Need-fill-requires
+fill-requires c κs =
     let t = c .before in
-    let l = asked (t .before) 1 1 (narrow t) in
-    record {
-      spans-pos = l .0 .spans-pos;
-      spans-le = l .0 .spans-le;
-      halves-pos = l .0 .halves-pos;
-      halves-le = l .0 .halves-le;
-      mode-le = S (t .before) .pre .0 .2;
-      of-x = l .0 .words;
-      of-y = l .1 .words;
-      of-c = l .2 .0;
-      of-d = l .2 .1;
-    }
+    let l = asked (t .before) 1 1 (narrow t) in (
+      (
+        record {
+          spans-pos = l .0 .spans-pos;
+          spans-le = l .0 .spans-le;
+          halves-pos = l .0 .halves-pos;
+          halves-le = l .0 .halves-le;
+          mode-le = S (t .before) .pre .0 .2;
+          of-x = l .0 .words;
+        },
+        l .1,
+      ),
+      l .2,
+    )
 
 same-length : tie.Need-same-length
 same-length c = search needs
@@ -80,12 +82,12 @@ returns c =
     let t = c .before .before .before .before in
     let u = t .before in
     let l = asked u 1 1 (narrow t) in
-    c .before .before .cells .ensures
-    ∙ ap₂ (λ (x y : List ℕ). onesWords 1 1 (S u .args .mode .0) x y (now (S u .args .c))) (lined _ (l .0 .words)) (lined _ (l .1 .words))
+    c .before .before .fill .ensures
+    ∙ ap (λ (x : List ℕ). onesWords 1 1 (S u .args .mode .0) x (now (S u .args .b)) (now (S u .args .c))) (lined _ (l .0 .words))
     ∙ counted u 1 1 (narrow t)
 
-cells-in-lines-requires : tie.Need-cells-in-lines-requires
-cells-in-lines-requires c κs =
+fill-in-lines-requires : tie.Need-fill-in-lines-requires
+fill-in-lines-requires c κs =
     let u = c .before .before .before .before in
     let l = asked u 1 2 (tall (c .before)) in
     ((l .0, l .1, S u .pre .0 .2), l .2)
@@ -96,10 +98,10 @@ same-length-2 c = search needs
 returns-2 : tie.Need-returns-2
 returns-2 c =
     let t = c .before .before .before .before in
-    c .before .before .cells-in-lines .ensures ∙ counted (t .before .before .before) 1 2 (tall t)
+    c .before .before .fill-in-lines .ensures ∙ counted (t .before .before .before) 1 2 (tall t)
 
-cells-in-lines-requires-2 : tie.Need-cells-in-lines-requires-2
-cells-in-lines-requires-2 c κs =
+fill-in-lines-requires-2 : tie.Need-fill-in-lines-requires-2
+fill-in-lines-requires-2 c κs =
     let u = c .before .before .before .before in
     let l = asked u 2 2 (long (c .before)) in
     ((l .0, l .1, S u .pre .0 .2), l .2)
@@ -110,18 +112,18 @@ same-length-3 c = search needs
 returns-3 : tie.Need-returns-3
 returns-3 c =
     let t = c .before .before .before .before in
-    c .before .before .cells-in-lines2 .ensures ∙ counted (t .before .before .before) 2 2 (long t)
+    c .before .before .fill-in-lines2 .ensures ∙ counted (t .before .before .before) 2 2 (long t)
 
 pub count-spec : {M : Type 1} → statement M
 count-spec =
     tie.close
     (tie.spec
-    cells-requires
+    fill-requires
     same-length
     returns
-    cells-in-lines-requires
+    fill-in-lines-requires
     same-length-2
     returns-2
-    cells-in-lines-requires-2
+    fill-in-lines-requires-2
     same-length-3
     returns-3)
