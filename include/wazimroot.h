@@ -12,8 +12,8 @@
 
    The calls keep nothing between them, and take no memory but the stack.
 
-   kind 1 to 10 and role 0 A, 1 B, 2 C or D are the numbers of the rules; so are the selectors: signs 0 to 3 (bit 0 for an unsigned A, bit
-   1 for an unsigned B), mode 0 wraps and 1 clamps (for kind 1: signs 0, mode 0 xor, 1 and). */
+   kind 1 to 14 and role 0 A, 1 B, 2 C or D are the numbers of the rules; so are the selectors: signs 0 to 3 (bit 0 for an unsigned A, bit
+   1 for an unsigned B), mode 0 wraps and 1 clamps (for the one-bit kinds 1, 13 and 14: signs 0, mode 0 xor, 1 and). */
 #ifndef WAZIMROOT_H
 #define WAZIMROOT_H
 
@@ -57,7 +57,7 @@ uint64_t wz_unpack(uint32_t kind, uint32_t role, const uint32_t *words, size_t n
 /* A row-major matrix of bit patterns to lane words. */
 uint64_t wz_pack(uint32_t kind, uint32_t role, const uint64_t *matrix, size_t m, uint32_t *words, size_t n);
 
-/* One step: D is C plus A times B, on warp buffers. Kinds 1 to 5. */
+/* One step: D is C plus A times B, on warp buffers. Kinds 1 to 5 and 11 to 14. */
 uint64_t wz_step(uint32_t kind, uint32_t signs, uint32_t mode, const uint32_t *a, size_t na, const uint32_t *b, size_t nb,
                  const uint32_t *c, size_t nc, uint32_t *d, size_t nd);
 
