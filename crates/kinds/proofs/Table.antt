@@ -24,7 +24,7 @@ pub element-pos : (k : ℕ) → 1 ≤ k → k ≤ kinds → 1 ≤ entryOf k .ele
 element-pos k low high = leb→le 1 (entryOf k .element) (all-at kinds (λ j. leb 1 (lineAt j .element)) tt (k - 1) (omega arith))
 
 -- what is tested of the lines whose element lies between two
-pub where-so : (a b : Bool) → a ≡ true → T (not a || b) → T b
+where-so : (a b : Bool) → a ≡ true → T (not a || b) → T b
 where-so true b e t = t
 where-so false b e t = absurd (false≢true e)
 

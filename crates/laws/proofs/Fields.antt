@@ -84,6 +84,9 @@ pub joined-two : (b : ℕ) (f : ℕ → ℕ) → joined b 2 f ≡ f 1 * 2 ^ b + 
 unfolding joined
 joined-two b f = rw (mul-one b, mul-zero b) (omega arith)
 
+pub joined-is : (b : ℕ) (f : ℕ → ℕ) (low high : ℕ) → low ≡ f 0 → high ≡ f 1 → high * 2 ^ b + low ≡ joined b 2 f
+joined-is b f low high e g = ap₂ (λ (h l : ℕ). h * 2 ^ b + l) g e ∙ sym (joined-two b f)
+
 -- one field more
 pub joined-more : (b n : ℕ) (f : ℕ → ℕ) → joined b (n + 1) f ≡ f n * 2 ^ (b * n) + joined b n f
 unfolding joined

@@ -6,7 +6,7 @@ use Prim.Native.Nat.{ℕ, zero, suc, _+_, _*_, _≤_, _<_, zero-le, suc-le-suc}
 use native.Mathlib.Nat.{not-suc-le-zero, le-of-suc-le-suc, eq-or-lt-of-le, add-assoc, add-suc, suc-mul, add-zero, zero-add, mul-le-mul-right}
 use native.Mathlib.Numerals.{add-one}
 use native.Mathlib.Omega.{arith}
-use lib.Arith.{digits-div, digits-mod}
+use lib.Arith.{digits-lt, digits-div, digits-mod}
 use lib.ListN.{length, getD, set, length-set}
 use lib.Seq.{ext-getD, getD-set-same, getD-set-other}
 use Rattle.laws.specs.Lists.{tab, fills, blocks}
@@ -89,3 +89,11 @@ module _ {A : Type 0} where
   fills-all n f xs d e =
       is-tab n f (fills 0 n f xs) d (length-fills 0 n f xs ∙ e)
       (λ k l. ap (λ (i : ℕ). getD (fills 0 n f xs) i d) (sym (zero-add k)) ∙ fills-in 0 f xs d n k (omega arith) l)
+
+  -- what stands at place b of block a
+  pub fills-at : (n w : ℕ) (g : ℕ → ℕ → A) (xs : List A) (d : A) (a b : ℕ) → n * w ≤ length xs → a < n → b < w
+      → getD (fills 0 (n * w) (blocks w g) xs) (a * w + b) d ≡ g a b
+  fills-at n w g xs d a b h ha hb =
+      ap (λ (i : ℕ). getD (fills 0 (n * w) (blocks w g) xs) i d) (sym (zero-add (a * w + b)))
+      ∙ fills-in 0 (blocks w g) xs d (n * w) (a * w + b) (omega arith) (digits-lt ha hb)
+      ∙ ap₂ g (digits-div a hb) (digits-mod a hb)

@@ -1,5 +1,6 @@
 -- Demand 2, a sentence above its statement: 'For the ten kinds, every place, unpacked matrix, packed warp and integer or one-bit step is what
--- the PTX rules say. Unpacking what was packed gives the matrix back, and packing what was unpacked the words.' Document 02, K5, makes the ten kinds fourteen. Assumes nothing.
+-- the PTX rules say. Unpacking what was packed gives the matrix back, and packing what was unpacked the words.' Document 02, K5, makes the ten
+-- kinds fourteen. Assumes nothing.
 use mathlib.Core.Path.{_≡_, refl, sym, ap, subst, _∙_}
 use mathlib.Core.Logic.{_↔_, _≢_, ⊎-elim}
 use mathlib.Core.List.{List}

@@ -122,7 +122,8 @@ module _ (k signs mode : ℕ) (c : List ℕ) (opened : openAnswer k signs mode (
         let t = runs.wrapped-total k signs mode c opened row column hr hc one xs ys (accepted-all xs .1 (n, s)) d in
         ap int32 (wraps-only w _ l h ∙ sym (wraps-only _ _ (below ys (t .0)) (t .1)))
 
-    -- Document 02, K5, 'sixteen boats one-bit': from a start s with s + 4,096 times K below 2^31 each sum of a one-bit kind is the exact total, in every order.
+    -- Document 02, K5, 'sixteen boats one-bit': from a start s with s + 4,096 times K below 2^31 each sum of a one-bit kind is the exact total,
+    -- in every order.
     pub one-bit-exact : Says (oneBit k) → (int32 (entryIn k 2 c row column) +ℤ pos (4096 * depth k)) <ℤ pos (2 ^ 31)
         → (xs ys : List Block) → length xs ≤ 4096 → AllSized k xs → List·Permᴰ xs ys
         → sumAt (fedAll (openedRun k signs mode c) ys) row column ≡ int32 (entryIn k 2 c row column) +ℤ total (contributions k signs mode row column xs)

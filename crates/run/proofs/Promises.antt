@@ -94,8 +94,7 @@ module _ (k signs mode : ℕ) (c : List ℕ) (accepted : openAnswer k signs mode
         let b = order d a in
         (b, subst (λ (z : ℤ). Wraps z (int32 from +ℤ total (adds xs))) (sym (word-at w ys b)) (fed-wraps from (adds xs) (adds ys) from-lt (added-perm k signs mode ok row column d)))
 
-    -- Document 02, K5: a one-bit block adds a count from 0 to K; so from a start s with s + 4,096 times K below 2^31 the sum is the exact total, in every
-    -- order.
+    -- A one-bit block adds a count from 0 to K; so from a start s with s + 4,096 times K below 2^31 the sum is the exact total, in every order.
     module _ (bit : Says (oneBit k)) where
       counts : (xs : List Block) → Counts (depth k) (adds xs)
       unfolding contributions added combinedBits All

@@ -1,9 +1,9 @@
--- The ones of a row and a column, pair by pair; and the words lie by the rule as the elements do, so that the bits of a row and a column are the one-bit
--- elements of their places. Assumes nothing.
+-- The ones of a row and a column, pair by pair; and the words lie by the rule as the elements do, so that the bits of a row and a column are the
+-- one-bit elements of their places. Assumes nothing.
 use mathlib.Core.Path.{_≡_, sym, ap, ap₂, subst, _∙_}
 use mathlib.Core.List.{List, _++_}
 use Prim.Native.Nat.{ℕ, _+_, _*_, _/_, _%_, _^_, _<_, _≤_}
-use native.Mathlib.Nat.{one-mul, mul-le-mul, div-add-mod', mod-lt, div-lt-iff-lt-mul, zero-add}
+use native.Mathlib.Nat.{one-mul, mul-le-mul, div-add-mod', mod-lt, div-lt-iff-lt-mul}
 use native.Mathlib.Omega.{arith}
 use lib.Arith.{digits-lt, digits-div, digits-mod}
 use lib.IntN.{pos, subℕ}
@@ -11,11 +11,11 @@ use lib.ListN.{length, getD, take, length-append}
 use lib.Seq.{take-at}
 use Rattle.laws.specs.Bits.{combine, onesIn, sumN}
 use Rattle.laws.specs.Fields.{field, joined}
-use Rattle.laws.specs.Lists.{tab, fills, blocks}
+use Rattle.laws.specs.Lists.{tab, blocks}
 use Rattle.laws.proofs.Bits.{sum-cong, sum-split, ones-tab, ones-le, combine-lt}
 use Rattle.laws.proofs.Differences.{is-pos}
-use Rattle.laws.proofs.Fields.{field-field, field-joined, joined-two}
-use Rattle.laws.proofs.Lists.{length-tab, getD-tab, is-tab, tab-ext, fills-in}
+use Rattle.laws.proofs.Fields.{field-field, field-joined}
+use Rattle.laws.proofs.Lists.{length-tab, getD-tab, is-tab, tab-ext}
 use Rattle.kinds.specs.Kinds.{lanes}
 use Rattle.kinds.specs.Rule.{laneOf, elementOf, major, minor}
 use Rattle.kinds.proofs.Digits.{lane-lt, element-lt, major-lt, minor-lt}
@@ -195,14 +195,3 @@ module _ (spans halves : ℕ) (ws xs rest : List ℕ) (e : xs ≡ linesOf spans 
 -- there is room for them
 pub room : (spans halves : ℕ) → spans ≤ 2 → halves ≤ 2 → halves * 8 * (spans * 4) ≤ 128
 room spans halves hs hh = mul-le-mul {n₁ = halves * 8} {m₁ = spans * 4} {n₂ = 16} {m₂ = 8} (omega arith) (omega arith)
-
--- two words joined by the code
-pub joined-is : (f : ℕ → ℕ) (low high : ℕ) → low ≡ f 0 → high ≡ f 1 → high * 4294967296 + low ≡ joined 32 2 f
-joined-is f low high e g = ap₂ (λ (h l : ℕ). h * 4294967296 + l) g e ∙ sym (joined-two 32 f)
-
--- what stands by block and place in a buffer that was filled from the front
-pub filled-at : (n w : ℕ) (g : ℕ → ℕ → ℕ) (xs : List ℕ) (a b : ℕ) → n * w ≤ length xs → a < n → b < w → getD (fills 0 (n * w) (blocks w g) xs) (a * w + b) 0 ≡ g a b
-filled-at n w g xs a b h ha hb =
-    ap (λ (i : ℕ). getD (fills 0 (n * w) (blocks w g) xs) i 0) (sym (zero-add (a * w + b)))
-    ∙ fills-in 0 (blocks w g) xs 0 (n * w) (a * w + b) (subst (λ (m : ℕ). m ≤ length xs) (sym (zero-add (n * w))) h) (digits-lt ha hb)
-    ∙ ap₂ g (digits-div a hb) (digits-mod a hb)

@@ -8,8 +8,9 @@ use denote.Ref.{now}
 use lib.ListN.{getD}
 use Rattle.laws.specs.Bits.{combine, onesIn, sumN}
 use Rattle.laws.specs.Lists.{tab}
+use Rattle.laws.proofs.Fields.{joined-is}
 use Rattle.step_ones.specs.Combined.{downBits}
-use Rattle.step_ones.proofs.Counts.{ones-more, joined-is}
+use Rattle.step_ones.proofs.Counts.{ones-more}
 use Rattle.step_ones.proofs.ones_at.Statement.{statement}
 use Rattle.step_ones.proofs.ones_at.Tie as tie
 
@@ -77,7 +78,7 @@ loop-again c =
     let s = l .before .before .args in
     let q = l .loop .q in
     let word : ℕ → ℕ = λ k. getD (now (s .x)) (s .i + 2 * q + k) 0 in
-    let joined = c .before .before .join .ensures ∙ joined-is word _ _ (sym (ap (λ (n : ℕ). getD (now (s .x)) n 0) (add-zero (s .i + 2 * q)))) refl in
+    let joined = c .before .before .join .ensures ∙ joined-is 32 word _ _ (sym (ap (λ (n : ℕ). getD (now (s .x)) n 0) (add-zero (s .i + 2 * q)))) refl in
     let counted =
     c .pair-ones .ensures .0
     ∙ ap (λ (p : ℕ). sumN 64 (λ t. combine (s .mode .0) (p / 2 ^ t % 2) (getD (now (s .y)) (q * 8 + s .column) 0 / 2 ^ t % 2))) joined in

@@ -7,9 +7,9 @@ use native.Mathlib.Omega.{arith}
 use denote.Ref.{now}
 use lib.ListN.{length, getD, set}
 use Rattle.laws.specs.Lists.{fills, blocks}
-use Rattle.laws.proofs.Lists.{fills-front, length-fills}
+use Rattle.laws.proofs.Fields.{joined-is}
+use Rattle.laws.proofs.Lists.{fills-front, fills-at, length-fills}
 use Rattle.step_ones.specs.Combined.{wordAt, pairOf}
-use Rattle.step_ones.proofs.Counts.{joined-is, filled-at}
 use Rattle.step_ones.proofs.pairs.Statement.{statement}
 use Rattle.step_ones.proofs.pairs.Tie as tie
 
@@ -68,7 +68,7 @@ loop-again c =
     let high : k / 8 * 2 + 1 ≡ 2 * (k / 8) + 1 = omega arith in
     let value =
     c .join .ensures
-    ∙ joined-is word _ _
+    ∙ joined-is 32 word _ _
     (c .before .before .word-of .ensures ∙ ap (λ (n : ℕ). getD (now (s .words)) (wordAt (s .spans) 1 (k % 8) n) 0) low)
     (c .before .word-of2 .ensures ∙ ap (λ (n : ℕ). getD (now (s .words)) (wordAt (s .spans) 1 (k % 8) n) 0) high) in
     let e = ap₂ (λ (ys : List ℕ) (v : ℕ). set ys k v) (l .loop .inv .1) value ∙ fills-front k f out in
@@ -82,7 +82,7 @@ returns c =
     record {
       at = λ q column hq hc.
           ap (λ (xs : List ℕ). getD xs (q * 8 + column) 0) (l .loop .inv .1 ∙ ap (λ (n : ℕ). fills 0 n (pairAt (s .args .spans) (now (s .args .words))) (now (s .args .out))) e)
-          ∙ filled-at (s .args .spans * 2) 8 (λ q column. pairOf (s .args .spans) (now (s .args .words)) column q) (now (s .args .out)) q column (omega arith) hq hc;
+          ∙ fills-at (s .args .spans * 2) 8 (λ q column. pairOf (s .args .spans) (now (s .args .words)) column q) (now (s .args .out)) 0 q column (omega arith) hq hc;
     }
 
 pub pairs-spec : {M : Type 1} → statement M

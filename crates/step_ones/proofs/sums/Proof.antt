@@ -8,9 +8,8 @@ use native.Mathlib.Omega.{arith}
 use denote.Ref.{now}
 use lib.ListN.{length, getD}
 use Rattle.laws.specs.Lists.{fills, blocks}
-use Rattle.laws.proofs.Lists.{block-le, fills-block, length-fills}
+use Rattle.laws.proofs.Lists.{block-le, fills-block, fills-at, length-fills}
 use Rattle.step_ones.specs.Combined.{onesOf}
-use Rattle.step_ones.proofs.Counts.{filled-at}
 use Rattle.step_ones.proofs.sums.Statement.{statement}
 use Rattle.step_ones.proofs.sums.Tie as tie
 
@@ -73,7 +72,7 @@ returns c =
     record {
       at = λ row column hr hc.
           ap (λ (xs : List ℕ). getD xs (row * 8 + column) 0) (l .loop .inv .1 ∙ ap (λ (n : ℕ). fills 0 (n * 8) (blocks 8 g) out) e)
-          ∙ filled-at (s .args .halves * 8) 8 g out row column (omega (arith, s .pre .0 .halves-le, s .pre .1)) hr hc;
+          ∙ fills-at (s .args .halves * 8) 8 g out 0 row column (omega (arith, s .pre .0 .halves-le, s .pre .1)) hr hc;
     }
 
 pub sums-spec : {M : Type 1} → statement M
