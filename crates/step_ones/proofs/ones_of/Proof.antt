@@ -24,7 +24,7 @@ mul-ones-at : tie.Need-mul-ones-at
 mul-ones-at c = omega (arith, one c .row-in)
 
 ones-at-requires : tie.Need-ones-at-requires
-ones-at-requires c κs = let o = one c in (o .mode-le, omega arith, o .row-in, c .before .before .pre .1)
+ones-at-requires c κs = let o = one c in (o .mode-le, omega arith, omega (arith, o .row-in), c .before .before .pre .1)
 
 returns : tie.Need-returns
 returns c = rw (c .before .if1 .taken) (c .ones-at .ensures)
@@ -33,7 +33,7 @@ mul-ones-at-2 : tie.Need-mul-ones-at-2
 mul-ones-at-2 c = omega (arith, two c .row-in)
 
 ones-at-requires-2 : tie.Need-ones-at-requires-2
-ones-at-requires-2 c κs = let o = two c in (o .mode-le, omega arith, o .row-in, c .before .before .pre .1)
+ones-at-requires-2 c κs = let o = two c in (o .mode-le, omega arith, omega (arith, o .row-in), c .before .before .pre .1)
 
 returns-2 : tie.Need-returns-2
 returns-2 c = rw (two-is (c .before)) (c .ones-at2 .ensures)
