@@ -1,18 +1,10 @@
 -- What a joined test says of its parts. Assumes nothing.
-use mathlib.Core.Path.{_≡_, refl, sym, _∙_}
+use mathlib.Core.Path.{_≡_, refl}
 use mathlib.Core.Bool.{Bool, true, false, _&&_, _||_, true≢false, false≢true}
 
 pub and-true : (a b : Bool) → (a && b) ≡ true → (a ≡ true) × (b ≡ true)
 and-true true b e = (refl, e)
 and-true false b e = absurd (false≢true e)
-
-pub and-on : (a b : Bool) → a ≡ true → (a && b) ≡ false → b ≡ false
-and-on true b t e = e
-and-on false b t e = absurd (false≢true t)
-
-pub and-off : (a b : Bool) → b ≡ true → (a && b) ≡ false → a ≡ false
-and-off true b t e = absurd (true≢false (sym t ∙ e))
-and-off false b t e = refl
 
 pub or-false : (a b : Bool) → (a || b) ≡ false → (a ≡ false) × (b ≡ false)
 or-false true b e = absurd (true≢false e)

@@ -40,10 +40,6 @@ total-perm (List·Permᴰ·swap {a = a} {b = b} {l = l} e f) =
     ∙ ap₂ (λ (x y : ℤ). y +ℤ (x +ℤ total l)) e f
 total-perm (List·Permᴰ·trans d e) = total-perm d ∙ total-perm e
 
-pub fed-wrapped-order : (c : ℕ) {zs ws : List ℤ} → c < 2 ^ 32 → List·Permᴰ zs ws → wrappedBy c zs ≡ wrappedBy c ws
-fed-wrapped-order c {zs} {ws} h d =
-    fed-wrapped c zs h ∙ ap (λ (t : ℤ). word32 (int32 c +ℤ t)) (total-perm d) ∙ sym (fed-wrapped c ws h)
-
 abbrev top : ℕ
 top = 2 ^ 32 - 1
 
