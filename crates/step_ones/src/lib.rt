@@ -167,8 +167,8 @@ pub fn fill_in_lines(
     ensures { λ _. ⌜ now (d .exit) ≡ onesWords spans halves (mode .0) (linesOf spans halves (now (a .entry)))
         (now (b .entry)) (now (c .entry)) ⌝ }
 {
-    let rows = halves * 8 * (spans * Lane::QUAD);
+    let count = halves * 8 * (spans * Lane::QUAD);
     let mut x: [u32; 128] = [0; 128];
-    lines(a, spans, halves, &mut x[..rows]);
-    fill(spans, halves, mode, &x[..rows], b, c, d);
+    lines(a, spans, halves, &mut x[..count]);
+    fill(spans, halves, mode, &x[..count], b, c, d);
 }

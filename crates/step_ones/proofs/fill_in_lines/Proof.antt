@@ -13,14 +13,14 @@ use Rattle.step_ones.proofs.fill_in_lines.Tie as tie
 room-A : (s : tie.Start) → s .args .halves * 8 * (s .args .spans * 4) ≤ 128
 room-A s = room (s .args .spans) (s .args .halves) (s .pre .0 .0 .spans-le) (s .pre .0 .0 .halves-le)
 
-mul-rows : tie.Need-mul-rows
-mul-rows c = search needs
+mul-count : tie.Need-mul-count
+mul-count c = search needs
 
-mul-rows-2 : tie.Need-mul-rows-2
-mul-rows-2 c = search needs
+mul-count-2 : tie.Need-mul-count-2
+mul-count-2 c = search needs
 
-mul-rows-3 : tie.Need-mul-rows-3
-mul-rows-3 c = search needs
+mul-count-3 : tie.Need-mul-count-3
+mul-count-3 c = search needs
 
 array-borrow-prefix-x : tie.Need-array-borrow-prefix-x
 array-borrow-prefix-x c = room-A (c .before .before .before .before)
@@ -73,9 +73,9 @@ pub fill-in-lines-spec : {M : Type 1} → statement M
 fill-in-lines-spec =
     tie.close
     (tie.spec
-    mul-rows
-    mul-rows-2
-    mul-rows-3
+    mul-count
+    mul-count-2
+    mul-count-3
     array-borrow-prefix-x
     slice-aggregate-lines
     lines-requires
