@@ -11,15 +11,6 @@ use Rattle.buffers.proofs.field_of.Tie as tie
 one-shl : (b : ℕ) → b < 64 → 1 * 2 ^ b % 2 ^ 64 ≡ 2 ^ b
 one-shl b l = rw one-mul (mod-eq-of-lt (pow-lt l))
 
-mul-result : tie.Need-mul-result
-mul-result c = search needs
-
-shr-result : tie.Need-shr-result
-shr-result c = search needs
-
-shl-result : tie.Need-shl-result
-shl-result c = search needs
-
 rem-result : tie.Need-rem-result
 rem-result c = rw (one-shl (c .args .bits) (c .pre .0)) (pow-pos (c .args .bits))
 
@@ -28,4 +19,4 @@ unfolding field
 returns c = rw (one-shl (c .args .bits) (c .pre .0))
 
 pub field-of-spec : {M : Type 1} → statement M
-field-of-spec = tie.close (tie.spec mul-result shr-result shl-result rem-result returns)
+field-of-spec = tie.close (tie.spec (λ c. search needs) (λ c. search needs) (λ c. search needs) rem-result returns)

@@ -7,16 +7,10 @@ use Rattle.buffers.specs.Stretches.{stepOf}
 use Rattle.buffers.proofs.step_of.Statement.{statement}
 use Rattle.buffers.proofs.step_of.Tie as tie
 
-columns-in-requires : tie.Need-columns-in-requires
-columns-in-requires c κs = search needs
-
 returns : tie.Need-returns
 returns c =
     let f = c .before .before .args .f in
     (c .columns-in .ensures .0 ∙ ap (λ (t : Bool). stepOf t (columnsOf f)) (sym (c .before .if1 .taken)), c .columns-in .ensures .1)
 
-returns-2 : tie.Need-returns-2
-returns-2 c = search needs
-
 pub step-of-spec : {M : Type 1} → statement M
-step-of-spec = tie.close (tie.spec columns-in-requires returns returns-2)
+step-of-spec = tie.close (tie.spec (λ c κs. search needs) returns (λ c. search needs))

@@ -7,12 +7,6 @@ use native.Mathlib.Omega.{arith}
 use Rattle.buffers.proofs.stretches_in.Statement.{statement}
 use Rattle.buffers.proofs.stretches_in.Tie as tie
 
-mul-result : tie.Need-mul-result
-mul-result c = search needs
-
-abreast-requires : tie.Need-abreast-requires
-abreast-requires c κs = search needs
-
 mul-result-2 : tie.Need-mul-result-2
 mul-result-2 c =
     let s = c .before .before in
@@ -22,4 +16,4 @@ returns : tie.Need-returns
 returns c = let f = c .before .before .args .f in ap (λ (n : ℕ). f .spans * f .halves * n) (c .abreast .ensures .0)
 
 pub stretches-in-spec : {M : Type 1} → statement M
-stretches-in-spec = tie.close (tie.spec mul-result abreast-requires mul-result-2 returns)
+stretches-in-spec = tie.close (tie.spec (λ c. search needs) (λ c κs. search needs) mul-result-2 returns)

@@ -20,26 +20,14 @@ module _ (e : Entry) (r p : ℕ) where
   as-C : r ≡ 2 → p ≡ sumBits (e .element) → spread p (e .c) 2 (e .m) (e .n) false ≡ layoutOf e (roleOf r)
   as-C n s = rw (n, s) refl
 
-side-of-requires : tie.Need-side-of-requires
-side-of-requires c κs = search needs
-
 new-requires : tie.Need-new-requires
 new-requires c κs = subst (λ (p : ℕ). 0 < p) (sym (c .side-of .ensures)) (c .before .before .pre .1)
 
 returns : tie.Need-returns
 returns c = c .new .ensures ∙ as-B _ _ _ (c .before .before .if1 .taken) (c .before .side-of .ensures)
 
-sum-bits-requires : tie.Need-sum-bits-requires
-sum-bits-requires c κs = search needs
-
-new-requires-2 : tie.Need-new-requires-2
-new-requires-2 c κs = search needs
-
 returns-2 : tie.Need-returns-2
 returns-2 c = c .new2 .ensures ∙ as-C _ _ _ (c .before .before .if2 .taken) (c .before .sum-bits .ensures)
-
-side-of-requires-2 : tie.Need-side-of-requires-2
-side-of-requires-2 c κs = search needs
 
 new-requires-3 : tie.Need-new-requires-3
 new-requires-3 c κs = subst (λ (p : ℕ). 0 < p) (sym (c .side-of2 .ensures)) (c .before .before .before .pre .1)
@@ -53,12 +41,12 @@ pub layout-in-spec : {M : Type 1} → statement M
 layout-in-spec =
     tie.close
     (tie.spec
-    side-of-requires
+    (λ c κs. search needs)
     new-requires
     returns
-    sum-bits-requires
-    new-requires-2
+    (λ c κs. search needs)
+    (λ c κs. search needs)
     returns-2
-    side-of-requires-2
+    (λ c κs. search needs)
     new-requires-3
     returns-3)

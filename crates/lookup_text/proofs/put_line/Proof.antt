@@ -9,12 +9,6 @@ use Rattle.lookup_text.proofs.Laws.{place-small}
 use Rattle.lookup_text.proofs.put_line.Statement.{statement}
 use Rattle.lookup_text.proofs.put_line.Tie as tie
 
-place-requires : tie.Need-place-requires
-place-requires c κs = search needs
-
-enum-known-row : tie.Need-enum-known-row
-enum-known-row c = search needs
-
 put-place-requires : tie.Need-put-place-requires
 unfolding placeAnswer
 put-place-requires c κs =
@@ -23,17 +17,8 @@ put-place-requires c κs =
     let small = place-small (x .kind) (x .role) (x .lane) (x .element) _ (sym (reply-is (l .place .ensures)) ∙ ap toldPlace (c .before .before .row .given .1)) in
     search needs
 
-enum-known-x : tie.Need-enum-known-x
-enum-known-x c = search needs
-
-number-requires : tie.Need-number-requires
-number-requires c κs = search needs
-
 put-refused-requires : tie.Need-put-refused-requires
 put-refused-requires c κs = let small = number-range (c .before .before .before .x .given .0 .0) in search needs
-
-same-length : tie.Need-same-length
-same-length c = search needs
 
 returns : tie.Need-returns
 unfolding placeAnswer
@@ -41,9 +26,6 @@ returns c =
     let p = c .before .before in
     let r = p .before .before .before in
     rw (sym (ap toldPlace (r .row .given .1)) ∙ reply-is (r .before .before .place .ensures)) at (p .put-place .ensures)
-
-same-length-2 : tie.Need-same-length-2
-same-length-2 c = search needs
 
 returns-2 : tie.Need-returns-2
 unfolding lineOf placeAnswer
@@ -56,13 +38,13 @@ pub put-line-spec : {M : Type 1} → statement M
 put-line-spec =
     tie.close
     (tie.spec
-    place-requires
-    enum-known-row
+    (λ c κs. search needs)
+    (λ c. search needs)
     put-place-requires
-    enum-known-x
-    number-requires
+    (λ c. search needs)
+    (λ c κs. search needs)
     put-refused-requires
-    same-length
+    (λ c. search needs)
     returns
-    same-length-2
+    (λ c. search needs)
     returns-2)

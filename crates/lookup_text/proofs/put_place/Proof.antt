@@ -8,12 +8,6 @@ use Rattle.lookup_text.proofs.Laws.{three}
 use Rattle.lookup_text.proofs.put_place.Statement.{statement}
 use Rattle.lookup_text.proofs.put_place.Tie as tie
 
-cast-x : tie.Need-cast-x
-cast-x c = search needs
-
-cast-y : tie.Need-cast-y
-cast-y c = search needs
-
 put-decimal-requires : tie.Need-put-decimal-requires
 put-decimal-requires c κs = let few = three _ (c .before .before .before .before .pre .1) in search needs
 
@@ -34,9 +28,6 @@ put-requires-2 c κs =
     let too = put-ends (c .before .before .before .put-decimal2 .ensures) 3 (three _ (s .pre .2)) in
     search needs
 
-same-length : tie.Need-same-length
-same-length c = search needs
-
 returns : tie.Need-returns
 unfolding lineOf
 returns c =
@@ -52,11 +43,11 @@ pub put-place-spec : {M : Type 1} → statement M
 put-place-spec =
     tie.close
     (tie.spec
-    cast-x
-    cast-y
+    (λ c. search needs)
+    (λ c. search needs)
     put-decimal-requires
     put-requires
     put-decimal-requires-2
     put-requires-2
-    same-length
+    (λ c. search needs)
     returns)

@@ -8,20 +8,11 @@ use Rattle.lookup_text.proofs.Laws.{three}
 use Rattle.lookup_text.proofs.put_refused.Statement.{statement}
 use Rattle.lookup_text.proofs.put_refused.Tie as tie
 
-slice-aggregate-put-text : tie.Need-slice-aggregate-put-text
-slice-aggregate-put-text c = search needs
-
-put-text-requires : tie.Need-put-text-requires
-put-text-requires c κs = search needs
-
 put-decimal-requires : tie.Need-put-decimal-requires
 put-decimal-requires c κs = let few = three _ (c .before .before .before .before .before .before .before .pre .1) in search needs
 
 put-requires : tie.Need-put-requires
 put-requires c κs = let few = put-ends (c .before .before .before .put-decimal .ensures) 3 (three _ (c .before .before .before .before .before .before .before .before .before .before .before .pre .1)) in search needs
-
-same-length : tie.Need-same-length
-same-length c = search needs
 
 returns : tie.Need-returns
 unfolding lineOf
@@ -36,9 +27,9 @@ pub put-refused-spec : {M : Type 1} → statement M
 put-refused-spec =
     tie.close
     (tie.spec
-    slice-aggregate-put-text
-    put-text-requires
+    (λ c. search needs)
+    (λ c κs. search needs)
     put-decimal-requires
     put-requires
-    same-length
+    (λ c. search needs)
     returns)

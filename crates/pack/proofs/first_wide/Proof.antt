@@ -26,32 +26,14 @@ Inv-loop matrix bits most i₀ i = (i ≤ length matrix) × ((k : ℕ) → k < i
 abbrev μ-loop : tie.MeasureT-loop
 μ-loop matrix bits most i₀ i = length matrix - i
 
-sub-most : tie.Need-sub-most Inv-loop μ-loop
-sub-most c = omega arith
-
-shr-most : tie.Need-shr-most Inv-loop μ-loop
-shr-most c = omega arith
-
 loop-holds : tie.Need-loop-holds Inv-loop μ-loop
 loop-holds c = (omega arith, λ k l. absurd (not-suc-le-zero l))
-
-mul-if1 : tie.Need-mul-if1 Inv-loop μ-loop
-mul-if1 c = search needs
-
-shared-slice-read-if1 : tie.Need-shared-slice-read-if1 Inv-loop μ-loop
-shared-slice-read-if1 c = search needs
 
 returns : tie.Need-returns Inv-loop μ-loop
 returns c =
     let s = c .before .before .before .before in
     first-here (length (now (s .args .matrix))) (tooWide (s .args .bits) (now (s .args .matrix))) (c .before .before .before .loop .i) (c .before .before .loop-test .taken)
     (λ j l. not-le-of-lt (c .before .before .before .loop .inv .1 j l)) (omega (arith, ones (s .args .bits) (s .pre .1), c .if1 .taken))
-
-add-i : tie.Need-add-i Inv-loop μ-loop
-add-i c = omega arith
-
-loop-less : tie.Need-loop-less Inv-loop μ-loop
-loop-less c = omega arith
 
 loop-again : tie.Need-loop-again Inv-loop μ-loop
 loop-again c =
@@ -70,13 +52,13 @@ first-wide-spec =
     (tie.spec
     Inv-loop
     μ-loop
-    sub-most
-    shr-most
+    (λ c. omega arith)
+    (λ c. omega arith)
     loop-holds
-    mul-if1
-    shared-slice-read-if1
+    (λ c. search needs)
+    (λ c. search needs)
     returns
-    add-i
-    loop-less
+    (λ c. omega arith)
+    (λ c. omega arith)
     loop-again
     returns-2)

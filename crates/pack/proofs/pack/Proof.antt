@@ -17,20 +17,8 @@ use Rattle.pack.proofs.ByLayout.{pack-is}
 use Rattle.pack.proofs.pack.Statement.{statement}
 use Rattle.pack.proofs.pack.Tie as tie
 
-layout-of-requires : tie.Need-layout-of-requires
-layout-of-requires c κs = search needs
-
-enum-known-f : tie.Need-enum-known-f
-enum-known-f c = search needs
-
 pack-in-requires : tie.Need-pack-in-requires
 pack-in-requires c κs = known-sane _ _ _ (c .before .before .before .before .layout-of .ensures) _ (c .before .before .f .given .1)
-
-enum-known-x : tie.Need-enum-known-x
-enum-known-x c = search needs
-
-same-length : tie.Need-same-length
-same-length c = search needs
 
 returns : tie.Need-returns
 returns c =
@@ -58,10 +46,10 @@ pub pack-spec : {M : Type 1} → statement M
 pack-spec =
     tie.close
     (tie.spec
-    layout-of-requires
-    enum-known-f
+    (λ c κs. search needs)
+    (λ c. search needs)
     pack-in-requires
-    enum-known-x
-    same-length
+    (λ c. search needs)
+    (λ c. search needs)
     returns
     returns-2)

@@ -17,20 +17,11 @@ use Rattle.pack.proofs.pack_in.Tie as tie
 size : (c : tie.After-columns-in) → c .before .rows-in .result * c .columns-in .result ≡ rowsOf (c .before .before .before .before .args .f) * columnsOf (c .before .before .before .before .args .f)
 size c = ap₂ _*_ (c .before .rows-in .ensures .0) (c .columns-in .ensures .0)
 
-rows-in-requires : tie.Need-rows-in-requires
-rows-in-requires c κs = search needs
-
-columns-in-requires : tie.Need-columns-in-requires
-columns-in-requires c κs = search needs
-
 mul-if1 : tie.Need-mul-if1
 mul-if1 c = omega (arith, mul-le-mul (c .before .rows-in .ensures .1) (c .columns-in .ensures .1))
 
 returns : tie.Need-returns
 returns c = kept (stops (λ q. c .if1 .taken (q ∙ sym (size (c .before)))) refl refl) refl
-
-mul-if2 : tie.Need-mul-if2
-mul-if2 c = search needs
 
 returns-2 : tie.Need-returns-2
 returns-2 c = kept (skips (λ n. n (c .before .if1 .left ∙ size (c .before .before))) (stops (c .if2 .taken) refl refl)) refl
@@ -72,9 +63,6 @@ fill-words-requires c κs =
       words = w .before .if2 .left;
     }
 
-same-length : tie.Need-same-length
-same-length c = search needs
-
 returns-4 : tie.Need-returns-4
 returns-4 c =
     let e = c .before .before .before .before in
@@ -88,15 +76,15 @@ pub pack-in-spec : {M : Type 1} → statement M
 pack-in-spec =
     tie.close
     (tie.spec
-    rows-in-requires
-    columns-in-requires
+    (λ c κs. search needs)
+    (λ c κs. search needs)
     mul-if1
     returns
-    mul-if2
+    (λ c. search needs)
     returns-2
     first-wide-requires
     cast-t14
     returns-3
     fill-words-requires
-    same-length
+    (λ c. search needs)
     returns-4)

@@ -76,12 +76,6 @@ add-sum-2 : tie.Need-add-sum-2 Inv-loop μ-loop
 add-sum-2 c =
     record { fits = subst (λ (z : ℕ). z < 2 ^ 64) (sym (value (c .before))) (omega (arith, below (S (c .before)) (J (c .before) + 1) (omega arith))) }
 
-add-j : tie.Need-add-j Inv-loop μ-loop
-add-j c = omega arith
-
-loop-less : tie.Need-loop-less Inv-loop μ-loop
-loop-less c = omega arith
-
 loop-again : tie.Need-loop-again Inv-loop μ-loop
 loop-again c = (omega arith, value (c .before))
 
@@ -106,7 +100,7 @@ gather-spec =
     mul-sum-3
     shl-sum
     add-sum-2
-    add-j
-    loop-less
+    (λ c. omega arith)
+    (λ c. omega arith)
     loop-again
     returns)

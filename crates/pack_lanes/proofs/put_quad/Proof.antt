@@ -57,9 +57,6 @@ loop-holds c =
 lane-requires : tie.Need-lane-requires Inv-loop μ-loop
 lane-requires c κs = (c .before .before .before .before .pre .2, c .loop-test .taken)
 
-cast-at : tie.Need-cast-at Inv-loop μ-loop
-cast-at c = search needs
-
 mul-at : tie.Need-mul-at Inv-loop μ-loop
 mul-at c = omega (arith, inside (c .before .before))
 
@@ -68,12 +65,6 @@ add-end c = omega (arith, inside (c .before .before .before))
 
 mul-write-lane : tie.Need-mul-write-lane Inv-loop μ-loop
 mul-write-lane c = omega (arith, inside (c .before .before .before))
-
-sub-write-lane : tie.Need-sub-write-lane Inv-loop μ-loop
-sub-write-lane c = omega arith
-
-part-write-lane-start : tie.Need-part-write-lane-start Inv-loop μ-loop
-part-write-lane-start c = omega arith
 
 part-write-lane-end : tie.Need-part-write-lane-end Inv-loop μ-loop
 part-write-lane-end c = inside (c .before .before .before) .2
@@ -84,12 +75,6 @@ write-lane-requires c κs =
     let s = S k in
     let at = lane k * f k .words in
     ((s .pre .0 .laid, s .pre .0 .fitting, s .pre .0 .entries, mid-len at (at + f k .words) (words k) (inside k .2) ∙ omega arith), (s .pre .1, lane-lt k))
-
-add-t : tie.Need-add-t Inv-loop μ-loop
-add-t c = search needs
-
-loop-less : tie.Need-loop-less Inv-loop μ-loop
-loop-less c = search needs
 
 loop-again : tie.Need-loop-again Inv-loop μ-loop
 loop-again c =
@@ -116,16 +101,16 @@ put-quad-spec =
     μ-loop
     loop-holds
     lane-requires
-    cast-at
+    (λ c. search needs)
     mul-at
     add-end
     mul-write-lane
-    sub-write-lane
-    part-write-lane-start
+    (λ c. omega arith)
+    (λ c. omega arith)
     part-write-lane-end
     write-lane-requires
-    add-t
-    loop-less
+    (λ c. search needs)
+    (λ c. search needs)
     loop-again
     same-length
     returns)

@@ -36,12 +36,6 @@ halves : (x : ℕ) → x < 2 ^ 64 → (x % 4294967296 ≡ field 32 0 x) × (x / 
 unfolding field
 halves x l = (omega arith, omega arith)
 
-base-of-requires : tie.Need-base-of-requires
-base-of-requires c κs = search needs
-
-step-of-requires : tie.Need-step-of-requires
-step-of-requires c κs = search needs
-
 gather-requires : tie.Need-gather-requires
 gather-requires c κs =
     let s = c .before .before .before .before .before .before in
@@ -52,17 +46,11 @@ gather-requires c κs =
       (λ j hj. subst (λ (n : ℕ). b .result + j * n < length (now (a .matrix))) (sym (c .step-of .ensures .0)) (entry-in (a .f) (s .pre .0 .0) (now (a .matrix)) (s .pre .0 .1) (s .pre .0 .2) (a .stretch .0) (a .lane .0) (b .result) (s .pre .1 .0) (s .pre .1 .1) (b .ensures .0) h j hj)),
     )
 
-cast-part : tie.Need-cast-part
-cast-part c = search needs
-
 mul-part : tie.Need-mul-part
 mul-part c = omega (arith, single (c .before .before .before .before .before .before .before) (λ e. omega (arith, c .before .before .if1 .taken)))
 
 slice-write-part : tie.Need-slice-write-part
 slice-write-part c = single (c .before .before .before .before .before .before .before) (λ e. omega (arith, c .before .before .if1 .taken)) .1
-
-same-length : tie.Need-same-length
-same-length c = search needs
 
 returns : tie.Need-returns
 returns c =
@@ -75,18 +63,12 @@ returns c =
     ∙ ap (λ (n : ℕ). joined (a .f .bits) (a .f .side) (λ j. getD (now (a .matrix)) (b .result + j * n) 0)) (c .before .step-of .ensures .0)
     ∙ fields-word (a .f) (s .pre .0 .0) (now (a .matrix)) (s .pre .0 .1) (s .pre .0 .2) (a .stretch .0) (a .lane .0) (b .result) (s .pre .1 .0) (s .pre .1 .1) (b .ensures .0) h)
 
-mul-element : tie.Need-mul-element
-mul-element c = search needs
-
 shared-slice-read-element : tie.Need-shared-slice-read-element
 shared-slice-read-element c =
     let s = c .before .before .before .before .before .before in
     let a = s .args in
     let b = c .before .before .before .base-of in
     whole-in (a .f) (s .pre .0 .0) (now (a .matrix)) (s .pre .0 .1) (s .pre .0 .2) (a .stretch .0) (a .lane .0) (b .result) (s .pre .1 .0) (s .pre .1 .1) (b .ensures .0) (c .before .if1 .left)
-
-cast-part-2 : tie.Need-cast-part-2
-cast-part-2 c = search needs
 
 mul-part-2 : tie.Need-mul-part-2
 mul-part-2 c = omega (arith, pair (c .before .before .before .before .before .before .before .before) (c .if2 .taken))
@@ -111,9 +93,6 @@ mul-part-5 c = omega (arith, pair (c .before .before .before .before .before .be
 
 slice-write-part-3 : tie.Need-slice-write-part-3
 slice-write-part-3 c = simp length-set (omega (arith, pair (c .before .before .before .before .before .before .before .before) (c .if2 .taken)))
-
-same-length-2 : tie.Need-same-length-2
-same-length-2 c = search needs
 
 returns-2 : tie.Need-returns-2
 returns-2 c =
@@ -141,9 +120,6 @@ mul-part-6 c = omega (arith, single (c .before .before .before .before .before .
 slice-write-part-4 : tie.Need-slice-write-part-4
 slice-write-part-4 c = single (c .before .before .before .before .before .before .before .before) (c .if2 .left) .1
 
-same-length-3 : tie.Need-same-length-3
-same-length-3 c = search needs
-
 returns-3 : tie.Need-returns-3
 returns-3 c =
     let s = c .before .before .before .before .before .before .before .before in
@@ -158,17 +134,17 @@ pub write-lane-spec : {M : Type 1} → statement M
 write-lane-spec =
     tie.close
     (tie.spec
-    base-of-requires
-    step-of-requires
+    (λ c κs. search needs)
+    (λ c κs. search needs)
     gather-requires
-    cast-part
+    (λ c. search needs)
     mul-part
     slice-write-part
-    same-length
+    (λ c. search needs)
     returns
-    mul-element
+    (λ c. search needs)
     shared-slice-read-element
-    cast-part-2
+    (λ c. search needs)
     mul-part-2
     mul-part-3
     slice-write-part-2
@@ -177,10 +153,10 @@ write-lane-spec =
     add-part
     mul-part-5
     slice-write-part-3
-    same-length-2
+    (λ c. search needs)
     returns-2
     cast-part-4
     mul-part-6
     slice-write-part-4
-    same-length-3
+    (λ c. search needs)
     returns-3)

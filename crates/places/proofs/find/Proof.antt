@@ -13,20 +13,11 @@ use Rattle.places.proofs.ByRule.{known-found, find-refused}
 use Rattle.places.proofs.find.Statement.{statement}
 use Rattle.places.proofs.find.Tie as tie
 
-layout-of-requires : tie.Need-layout-of-requires
-layout-of-requires c κs = search needs
-
-enum-known-f : tie.Need-enum-known-f
-enum-known-f c = search needs
-
 find-in-requires : tie.Need-find-in-requires
 find-in-requires c κs = known-sane _ _ _ (c .before .before .before .before .layout-of .ensures) _ (c .before .before .f .given .1)
 
 find-in-requires-2 : tie.Need-find-in-requires-2
 find-in-requires-2 c κs = known-sane _ _ _ (c .before .before .before .before .layout-of .ensures) _ (c .before .before .f .given .1)
-
-enum-known-x : tie.Need-enum-known-x
-enum-known-x c = search needs
 
 returns : tie.Need-returns
 unfolding findAnswer
@@ -56,11 +47,11 @@ pub find-spec : {M : Type 1} → statement M
 find-spec =
     tie.close
     (tie.spec
-    layout-of-requires
-    enum-known-f
+    (λ c κs. search needs)
+    (λ c. search needs)
     find-in-requires
     find-in-requires-2
-    enum-known-x
+    (λ c. search needs)
     returns
     returns-2
     returns-3)

@@ -9,17 +9,8 @@ use Rattle.places.proofs.ByRule.{known-placed, place-refused}
 use Rattle.places.proofs.place.Statement.{statement}
 use Rattle.places.proofs.place.Tie as tie
 
-layout-of-requires : tie.Need-layout-of-requires
-layout-of-requires c κs = search needs
-
-enum-known-f : tie.Need-enum-known-f
-enum-known-f c = search needs
-
 place-in-requires : tie.Need-place-in-requires
 place-in-requires c κs = known-sane _ _ _ (c .before .before .before .layout-of .ensures) _ (c .before .f .given .1)
-
-enum-known-x : tie.Need-enum-known-x
-enum-known-x c = search needs
 
 returns : tie.Need-returns
 unfolding placeAnswer
@@ -36,4 +27,4 @@ returns-2 c =
 pub place-spec : {M : Type 1} → statement M
 place-spec =
     tie.close
-    (tie.spec layout-of-requires enum-known-f place-in-requires enum-known-x returns returns-2)
+    (tie.spec (λ c κs. search needs) (λ c. search needs) place-in-requires (λ c. search needs) returns returns-2)

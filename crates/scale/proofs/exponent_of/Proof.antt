@@ -10,9 +10,6 @@ use Rattle.scale.proofs.Laws.{exponent-fits}
 use Rattle.scale.proofs.exponent_of.Statement.{statement}
 use Rattle.scale.proofs.exponent_of.Tie as tie
 
-cast-result : tie.Need-cast-result
-cast-result c = search needs
-
 sub-result : tie.Need-sub-result
 sub-result c =
     subst (λ (z : ℤ). SFits w32 (z -ℤ pos 127)) (sym (toZ-pos w32 (c .args .b) (omega arith))) (exponent-fits (c .args .b) (omega arith))
@@ -21,4 +18,4 @@ returns : tie.Need-returns
 returns c = toZ-ofZ w32 _ (sub-result c) ∙ ap (λ (z : ℤ). z -ℤ pos 127) (toZ-pos w32 (c .args .b) (omega arith))
 
 pub exponent-of-spec : {M : Type 1} → statement M
-exponent-of-spec = tie.close (tie.spec cast-result sub-result returns)
+exponent-of-spec = tie.close (tie.spec (λ c. search needs) sub-result returns)

@@ -63,9 +63,6 @@ lane-more s side b t m out k el ex ey =
     ∙ ap (λ (base : ℕ). fills base s (g k) (fills 0 (k * s) (blocks s g) out)) (sym (zero-add (k * s)))
     ∙ fills-block 0 k s g out
 
-output-length-requires : tie.Need-output-length-requires Inv-loop μ-loop
-output-length-requires c κs = search needs
-
 loop-holds : tie.Need-loop-holds Inv-loop μ-loop
 unfolding fills
 loop-holds c =
@@ -78,31 +75,13 @@ cast-lane-at c = omega (arith, few c)
 lane-at-requires : tie.Need-lane-at-requires Inv-loop μ-loop
 lane-at-requires c κs = (S c .pre .0 .thread-id, below c)
 
-cast-lane : tie.Need-cast-lane Inv-loop μ-loop
-cast-lane c = search needs
-
-cast-at : tie.Need-cast-at Inv-loop μ-loop
-cast-at c = search needs
-
 mul-at : tie.Need-mul-at Inv-loop μ-loop
 mul-at c = omega (arith, small (c .before .before .before))
-
-mul-put-lane : tie.Need-mul-put-lane Inv-loop μ-loop
-mul-put-lane c = search needs
-
-shared-slice-read-put-lane : tie.Need-shared-slice-read-put-lane Inv-loop μ-loop
-shared-slice-read-put-lane c = search needs
 
 put-lane-requires : tie.Need-put-lane-requires Inv-loop μ-loop
 put-lane-requires c κs =
     let i = c .before .before .before .before .before in
     (fit i, omega (arith, small i), omega (arith, block i, S i .pre .1))
-
-add-k : tie.Need-add-k Inv-loop μ-loop
-add-k c = search needs
-
-loop-less : tie.Need-loop-less Inv-loop μ-loop
-loop-less c = search needs
 
 loop-again : tie.Need-loop-again Inv-loop μ-loop
 loop-again c =
@@ -115,9 +94,6 @@ loop-again c =
     lane-more (x .size .0) (x .side .0) (x .byte-id .0) (x .thread-id .0) (now (x .metadata)) out k
     (l .lane-at .ensures .0) (l .before .before .loop .inv .1) (c .before .put-lane .ensures) in
     (omega arith, e, ap length e ∙ length-fills 0 ((k + 1) * x .size .0) (numbers s) out)
-
-same-length : tie.Need-same-length Inv-loop μ-loop
-same-length c = search needs
 
 returns : tie.Need-returns Inv-loop μ-loop
 returns c =
@@ -139,18 +115,18 @@ fill-spec =
     (tie.spec
     Inv-loop
     μ-loop
-    output-length-requires
+    (λ c κs. search needs)
     loop-holds
     cast-lane-at
     lane-at-requires
-    cast-lane
-    cast-at
+    (λ c. search needs)
+    (λ c. search needs)
     mul-at
-    mul-put-lane
-    shared-slice-read-put-lane
+    (λ c. search needs)
+    (λ c. search needs)
     put-lane-requires
-    add-k
-    loop-less
+    (λ c. search needs)
+    (λ c. search needs)
     loop-again
-    same-length
+    (λ c. search needs)
     returns)

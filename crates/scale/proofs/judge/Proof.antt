@@ -21,28 +21,16 @@ byte-id-ok c = held (c .before .legal3 .ensures) (not-false _ (c .if3 .left))
 thread-id-ok : (c : tie.Else4) → let s = c .before .before .before .before .before .before .before .before in Shows true (legalThreadId (s .args .side .0) (s .args .thread-id .0))
 thread-id-ok c = held (c .before .legal4 .ensures) (not-false _ (c .if4 .left))
 
-legal-requires : tie.Need-legal-requires
-legal-requires c κs = search needs
-
 returns : tie.Need-returns
 returns c = stops (failed (c .before .legal .ensures) (not-true _ (c .if1 .taken))) refl refl
 
-legal-requires-2 : tie.Need-legal-requires-2
-legal-requires-2 c κs = search needs
-
 returns-2 : tie.Need-returns-2
 returns-2 c = skips (size-ok (c .before .before)) (stops (failed (c .before .legal2 .ensures) (not-true _ (c .if2 .taken))) refl refl)
-
-legal-requires-3 : tie.Need-legal-requires-3
-legal-requires-3 c κs = search needs
 
 returns-3 : tie.Need-returns-3
 returns-3 c =
     let p = c .before .before in
     skips (size-ok (p .before .before)) (skips (side-ok p) (stops (failed (c .before .legal3 .ensures) (not-true _ (c .if3 .taken))) refl refl))
-
-legal-requires-4 : tie.Need-legal-requires-4
-legal-requires-4 c κs = search needs
 
 returns-4 : tie.Need-returns-4
 returns-4 c =
@@ -56,9 +44,6 @@ returns-5 c =
     let q = p .before .before in
     let r = q .before .before in
     skips (size-ok (r .before .before)) (skips (side-ok r) (skips (byte-id-ok q) (skips (thread-id-ok p) (search needs))))
-
-output-length-requires : tie.Need-output-length-requires
-output-length-requires c κs = search needs
 
 returns-6 : tie.Need-returns-6
 returns-6 c =
@@ -78,15 +63,15 @@ pub judge-spec : {M : Type 1} → statement M
 judge-spec =
     tie.close
     (tie.spec
-    legal-requires
+    (λ c κs. search needs)
     returns
-    legal-requires-2
+    (λ c κs. search needs)
     returns-2
-    legal-requires-3
+    (λ c κs. search needs)
     returns-3
-    legal-requires-4
+    (λ c κs. search needs)
     returns-4
     returns-5
-    output-length-requires
+    (λ c κs. search needs)
     returns-6
     returns-7)

@@ -9,12 +9,6 @@ use Rattle.step.proofs.Accepted.{plain-is}
 use Rattle.step.proofs.plain_step.Statement.{statement}
 use Rattle.step.proofs.plain_step.Tie as tie
 
-step-requires : tie.Need-step-requires
-step-requires c κs = search needs
-
-same-length : tie.Need-same-length
-same-length c = search needs
-
 returns : tie.Need-returns
 returns c =
     let u = c .before .before in
@@ -24,4 +18,4 @@ returns c =
     (u .step .ensures .left-is)
 
 pub plain-step-spec : {M : Type 1} → statement M
-plain-step-spec = tie.close (tie.spec step-requires same-length returns)
+plain-step-spec = tie.close (tie.spec (λ c κs. search needs) (λ c. search needs) returns)

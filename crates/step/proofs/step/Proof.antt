@@ -9,20 +9,8 @@ use Rattle.step.proofs.Accepted.{selected, selected-line, rejected}
 use Rattle.step.proofs.step.Statement.{statement}
 use Rattle.step.proofs.step.Tie as tie
 
-select-requires : tie.Need-select-requires
-select-requires c κs = search needs
-
-enum-known-line : tie.Need-enum-known-line
-enum-known-line c = search needs
-
 step-in-requires : tie.Need-step-in-requires
 step-in-requires c κs = selected-line _ _ _ _ (c .before .before .before .before .select .ensures) _ (c .before .before .line .given .1)
-
-enum-known-x : tie.Need-enum-known-x
-enum-known-x c = search needs
-
-same-length : tie.Need-same-length
-same-length c = search needs
 
 returns : tie.Need-returns
 returns c =
@@ -40,10 +28,10 @@ pub step-spec : {M : Type 1} → statement M
 step-spec =
     tie.close
     (tie.spec
-    select-requires
-    enum-known-line
+    (λ c κs. search needs)
+    (λ c. search needs)
     step-in-requires
-    enum-known-x
-    same-length
+    (λ c. search needs)
+    (λ c. search needs)
     returns
     returns-2)

@@ -5,22 +5,10 @@ use Rattle.step.proofs.Accepted.{sized}
 use Rattle.step.proofs.step_in.Statement.{statement}
 use Rattle.step.proofs.step_in.Tie as tie
 
-lengths-requires : tie.Need-lengths-requires
-lengths-requires c κs = search needs
-
-enum-told : tie.Need-enum-told
-enum-told c = search needs
-
 work-requires : tie.Need-work-requires
 work-requires c κs =
     let s = c .before .before .before .before .before .before .before .before in
     (s .pre, sized _ _ _ _ _ (admitted (c .before .before .before .lengths .ensures) (c .before .enum-told .given .1)))
-
-enum-told-2 : tie.Need-enum-told-2
-enum-told-2 c = search needs
-
-same-length : tie.Need-same-length
-same-length c = search needs
 
 returns : tie.Need-returns
 returns c = worked (c .before .before .before .before .before .before .lengths .ensures) (c .before .before .before .before .enum-told .given .1) (c .before .before .work .ensures)
@@ -32,10 +20,10 @@ pub step-in-spec : {M : Type 1} → statement M
 step-in-spec =
     tie.close
     (tie.spec
-    lengths-requires
-    enum-told
+    (λ c κs. search needs)
+    (λ c. search needs)
     work-requires
-    enum-told-2
-    same-length
+    (λ c. search needs)
+    (λ c. search needs)
     returns
     returns-2)

@@ -6,9 +6,6 @@ use Rattle.step_ones.proofs.Counts.{few-ones, sums-are}
 use Rattle.step_ones.proofs.fill.Statement.{statement}
 use Rattle.step_ones.proofs.fill.Tie as tie
 
-pairs-requires : tie.Need-pairs-requires
-pairs-requires c κs = search needs
-
 sums-requires : tie.Need-sums-requires
 sums-requires c κs = let s = c .before .before .before .before .before .before .before .before in (s .pre .0 .0, refl)
 
@@ -20,9 +17,6 @@ put-cells-requires c κs =
       (n .halves-pos, n .halves-le, few-ones _ _ _ _ _ _ (m .sums .ensures) (n .spans-le)),
       s .pre .1,
     )
-
-same-length : tie.Need-same-length
-same-length c = search needs
 
 returns : tie.Need-returns
 returns c =
@@ -38,8 +32,8 @@ pub fill-spec : {M : Type 1} → statement M
 fill-spec =
     tie.close
     (tie.spec
-    pairs-requires
+    (λ c κs. search needs)
     sums-requires
     put-cells-requires
-    same-length
+    (λ c. search needs)
     returns)

@@ -9,12 +9,6 @@ use Rattle.laws.proofs.Bits.{ones-xor, ones-and}
 use Rattle.step_ones.proofs.pair_ones.Statement.{statement}
 use Rattle.step_ones.proofs.pair_ones.Tie as tie
 
-wide-requires : tie.Need-wide-requires
-wide-requires c κs = search needs
-
-wide-requires-2 : tie.Need-wide-requires-2
-wide-requires-2 c κs = search needs
-
 returns : tie.Need-returns
 returns c =
     let s = c .before .before .args in (
@@ -34,7 +28,7 @@ pub pair-ones-spec : {M : Type 1} → statement M
 pair-ones-spec =
     tie.close
     (tie.spec
-    wide-requires
-    wide-requires-2
+    (λ c κs. search needs)
+    (λ c κs. search needs)
     returns
     returns-2)

@@ -23,26 +23,8 @@ column k = omega arith
 returns : tie.Need-returns
 returns c = let s = c .before .args in rw (c .if1 .taken) (one (s .k))
 
-mul-result : tie.Need-mul-result
-mul-result c = search needs
-
-add-result : tie.Need-add-result
-add-result c = search needs
-
-mul-result-2 : tie.Need-mul-result-2
-mul-result-2 c = search needs
-
-mul-result-3 : tie.Need-mul-result-3
-mul-result-3 c = search needs
-
-add-result-2 : tie.Need-add-result-2
-add-result-2 c = search needs
-
-add-result-3 : tie.Need-add-result-3
-add-result-3 c = search needs
-
 returns-2 : tie.Need-returns-2
 returns-2 c = let s = c .before .args in let e : s .halves ≡ 2 = omega arith in rw e (ap₂ (λ (r c : ℕ). r * 8 + c) (row (s .k)) (column (s .k)))
 
 pub place-of-spec : {M : Type 1} → statement M
-place-of-spec = tie.close (tie.spec returns mul-result add-result mul-result-2 mul-result-3 add-result-2 add-result-3 returns-2)
+place-of-spec = tie.close (tie.spec returns (λ c. search needs) (λ c. search needs) (λ c. search needs) (λ c. search needs) (λ c. search needs) (λ c. search needs) returns-2)

@@ -19,9 +19,6 @@ Inv-loop spans halves mode x y out₀ row₀ row-end out row = (row ≤ halves *
 abbrev μ-loop : tie.MeasureT-loop
 μ-loop spans halves mode x y out₀ row₀ row-end out row = halves * 8 - row
 
-mul-row-end : tie.Need-mul-row-end Inv-loop μ-loop
-mul-row-end c = search needs
-
 loop-holds : tie.Need-loop-holds Inv-loop μ-loop
 unfolding fills
 loop-holds c = (search needs, refl, refl)
@@ -41,12 +38,6 @@ row-sums-requires c κs =
       omega (arith, p .halves-le),
       l .loop .inv .2 ∙ s .pre .1,
     )
-
-add-row : tie.Need-add-row Inv-loop μ-loop
-add-row c = search needs
-
-loop-less : tie.Need-loop-less Inv-loop μ-loop
-loop-less c = search needs
 
 loop-again : tie.Need-loop-again Inv-loop μ-loop
 loop-again c =
@@ -81,10 +72,10 @@ sums-spec =
     (tie.spec
     Inv-loop
     μ-loop
-    mul-row-end
+    (λ c. search needs)
     loop-holds
     row-sums-requires
-    add-row
-    loop-less
+    (λ c. search needs)
+    (λ c. search needs)
     loop-again
     returns)

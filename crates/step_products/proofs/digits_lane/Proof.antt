@@ -15,12 +15,6 @@ word-in : (s : tie.Start) → (s .args .lane .0 * s .args .f .words ≤ 248) × 
 word-in s =
     omega (arith, lane-word (s .args .f) (s .pre .0 .laid) 1 (s .args .lane .0) (s .args .stretch .0) 0 (one-word (s .args .f) (λ e. omega (arith, s .pre .0 .narrow))) (s .pre .2) (s .pre .1) (omega arith), s .pre .0 .words)
 
-base-of-requires : tie.Need-base-of-requires
-base-of-requires c κs = search needs
-
-cast-k : tie.Need-cast-k
-cast-k c = search needs
-
 mul-k : tie.Need-mul-k
 mul-k c = omega (arith, word-in (c .before .before .before .before))
 
@@ -32,9 +26,6 @@ mul-word c = omega (arith, word-in (c .before .before .before .before .before), 
 
 shared-slice-read-word : tie.Need-shared-slice-read-word
 shared-slice-read-word c = word-in (c .before .before .before .before .before .before) .1
-
-word-requires : tie.Need-word-requires
-word-requires c κs = search needs
 
 digits-of-requires : tie.Need-digits-of-requires
 digits-of-requires c κs =
@@ -61,12 +52,12 @@ pub digits-lane-spec : {M : Type 1} → statement M
 digits-lane-spec =
     tie.close
     (tie.spec
-    base-of-requires
-    cast-k
+    (λ c κs. search needs)
+    (λ c. search needs)
     mul-k
     add-k
     mul-word
     shared-slice-read-word
-    word-requires
+    (λ c κs. search needs)
     digits-of-requires
     returns)

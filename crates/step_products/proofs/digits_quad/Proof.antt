@@ -36,12 +36,6 @@ digits-lane-requires c κs =
     let l = c .before .before .before .loop in
     (still-digitised (s .args .f) (now (s .args .words)) (now (s .args .out)) (l .out) (s .pre .0) (l .inv .1 .same), s .pre .1, omega (arith, c .lane .ensures, c .before .before .loop-test .taken, s .pre .2))
 
-add-t : tie.Need-add-t Inv-loop μ-loop
-add-t c = search needs
-
-loop-less : tie.Need-loop-less Inv-loop μ-loop
-loop-less c = search needs
-
 loop-again : tie.Need-loop-again Inv-loop μ-loop
 loop-again c =
     let i = c .before .before .before in
@@ -65,7 +59,7 @@ digits-quad-spec =
     loop-holds
     lane-requires
     digits-lane-requires
-    add-t
-    loop-less
+    (λ c. search needs)
+    (λ c. search needs)
     loop-again
     returns)

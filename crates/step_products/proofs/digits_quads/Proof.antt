@@ -30,12 +30,6 @@ digits-quad-requires c κs =
     let l = i .before .loop in
     (still-digitised (s .args .f) (now (s .args .words)) (now (s .args .out)) (l .out) (s .pre .0) (l .inv .1 .same), s .pre .1, i .loop-test .taken)
 
-add-quad : tie.Need-add-quad Inv-loop μ-loop
-add-quad c = search needs
-
-loop-less : tie.Need-loop-less Inv-loop μ-loop
-loop-less c = search needs
-
 loop-again : tie.Need-loop-again Inv-loop μ-loop
 loop-again c =
     let i = c .before .before in
@@ -57,7 +51,7 @@ digits-quads-spec =
     μ-loop
     loop-holds
     digits-quad-requires
-    add-quad
-    loop-less
+    (λ c. search needs)
+    (λ c. search needs)
     loop-again
     returns)

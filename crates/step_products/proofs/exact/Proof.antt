@@ -20,9 +20,6 @@ module _ (s : tie.Start) where
   right : s .args .h .b * s .args .s .a ≤ 2088960
   right = product-le (s .args .h .b) (s .args .s .a) 128 16320 (s .pre .2) (omega (arith, s .pre .4))
 
-cast-t4 : tie.Need-cast-t4
-cast-t4 c = search needs
-
 mul-t5 : tie.Need-mul-t5
 mul-t5 c = omega (arith, offsets (c .before))
 
@@ -47,4 +44,4 @@ returns c =
     ((refl, refl), (omega (arith, constant s, s .pre .3), omega (arith, left s, right s)))
 
 pub exact-spec : {M : Type 1} → statement M
-exact-spec = tie.close (tie.spec cast-t4 mul-t5 mul-t6 add-t7 mul-t8 mul-t9 add-t10 returns)
+exact-spec = tie.close (tie.spec (λ c. search needs) mul-t5 mul-t6 add-t7 mul-t8 mul-t9 add-t10 returns)

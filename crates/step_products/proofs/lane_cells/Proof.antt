@@ -101,9 +101,6 @@ exact-requires c κs =
     let d = c .dot-of .ensures in
     (p .deep, p .offset-a, p .offset-b, omega (arith, d .products-le, p .deep), omega (arith, d .a-le, p .deep), omega (arith, d .b-le, p .deep))
 
-cast-k : tie.Need-cast-k Inv-loop μ-loop
-cast-k c = search needs
-
 mul-k : tie.Need-mul-k Inv-loop μ-loop
 mul-k c = omega (arith, word-in (c .before .before .before .before .before .before))
 
@@ -171,7 +168,7 @@ lane-cells-spec =
     mul-dot-of-2
     dot-of-requires
     exact-requires
-    cast-k
+    (λ c. search needs)
     mul-k
     add-k
     mul-limited

@@ -50,12 +50,6 @@ shl-sum c = omega (arith, room c)
 add-sum : tie.Need-add-sum Inv-loop μ-loop
 add-sum c = record { fits = subst (λ (z : ℕ). z < 2 ^ 64) (sym (value c)) (omega (arith, below (S c) (J c + 1) (omega arith))) }
 
-add-j : tie.Need-add-j Inv-loop μ-loop
-add-j c = omega arith
-
-loop-less : tie.Need-loop-less Inv-loop μ-loop
-loop-less c = omega arith
-
 loop-again : tie.Need-loop-again Inv-loop μ-loop
 loop-again c = (omega arith, value c)
 
@@ -79,8 +73,8 @@ mask-of-spec =
     mul-sum
     shl-sum
     add-sum
-    add-j
-    loop-less
+    (λ c. omega arith)
+    (λ c. omega arith)
     loop-again
     cast-result
     returns)

@@ -74,9 +74,6 @@ fill-requires c κs =
       l .2,
     )
 
-same-length : tie.Need-same-length
-same-length c = search needs
-
 returns : tie.Need-returns
 returns c =
     let t = c .before .before .before .before in
@@ -92,9 +89,6 @@ fill-in-lines-requires c κs =
     let l = asked u 1 2 (tall (c .before)) in
     ((l .0, l .1, S u .pre .0 .2), l .2)
 
-same-length-2 : tie.Need-same-length-2
-same-length-2 c = search needs
-
 returns-2 : tie.Need-returns-2
 returns-2 c =
     let t = c .before .before .before .before in
@@ -106,9 +100,6 @@ fill-in-lines-requires-2 c κs =
     let l = asked u 2 2 (long (c .before)) in
     ((l .0, l .1, S u .pre .0 .2), l .2)
 
-same-length-3 : tie.Need-same-length-3
-same-length-3 c = search needs
-
 returns-3 : tie.Need-returns-3
 returns-3 c =
     let t = c .before .before .before .before in
@@ -119,11 +110,11 @@ count-spec =
     tie.close
     (tie.spec
     fill-requires
-    same-length
+    (λ c. search needs)
     returns
     fill-in-lines-requires
-    same-length-2
+    (λ c. search needs)
     returns-2
     fill-in-lines-requires-2
-    same-length-3
+    (λ c. search needs)
     returns-3)

@@ -28,26 +28,11 @@ either : (b o : ℕ) (unsigned : Bool) → o ≡ offsetOf unsigned (2 ^ (b - 1))
 either b o true e = inl e
 either b o false e = inr e
 
-of-requires : tie.Need-of-requires
-of-requires c κs = search needs
-
-unsigned-a-requires : tie.Need-unsigned-a-requires
-unsigned-a-requires c κs = search needs
-
 offset-requires : tie.Need-offset-requires
 offset-requires c κs = let n = known (c .before .before .before) in (n .3, n .2)
 
-unsigned-b-requires : tie.Need-unsigned-b-requires
-unsigned-b-requires c κs = search needs
-
 offset-requires-2 : tie.Need-offset-requires-2
 offset-requires-2 c κs = let n = known (c .before .before .before .before .before) in (n .3, n .2)
-
-cast-t17 : tie.Need-cast-t17
-cast-t17 c = search needs
-
-cast-t18 : tie.Need-cast-t18
-cast-t18 c = search needs
 
 digits-requires : tie.Need-digits-requires
 digits-requires c κs =
@@ -71,9 +56,6 @@ cells-requires c κs =
     let s = S k in
     summable _ _ _ (s .pre .0 .0) (s .pre .0 .1) (l k) (k .of .ensures) _ _ _ (c .before .before .before .before .before .before .before .before .before .offset .ensures .1) (c .before .before .before .before .before .before .before .offset2 .ensures .1) (s .pre .1 .of-c) (s .pre .1 .of-d)
 
-same-length : tie.Need-same-length
-same-length c = search needs
-
 returns : tie.Need-returns
 returns c =
     let k = c .before .before .before .before .before .before .before .before .before .before .before .before .before .before .before .before in
@@ -88,15 +70,15 @@ pub multiply-spec : {M : Type 1} → statement M
 multiply-spec =
     tie.close
     (tie.spec
-    of-requires
-    unsigned-a-requires
+    (λ c κs. search needs)
+    (λ c κs. search needs)
     offset-requires
-    unsigned-b-requires
+    (λ c κs. search needs)
     offset-requires-2
-    cast-t17
-    cast-t18
+    (λ c. search needs)
+    (λ c. search needs)
     digits-requires
     digits-requires-2
     cells-requires
-    same-length
+    (λ c. search needs)
     returns)

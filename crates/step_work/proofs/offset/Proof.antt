@@ -21,12 +21,6 @@ returns c =
     let s = c .before in
     (ap (λ (t : Bool). offsetOf t (2 ^ (s .args .bits - 1))) (sym (c .if1 .taken)), omega arith)
 
-sub-result : tie.Need-sub-result
-sub-result c = search needs
-
-shl-result : tie.Need-shl-result
-shl-result c = search needs
-
 returns-2 : tie.Need-returns-2
 returns-2 c =
     let s = c .before in
@@ -34,4 +28,4 @@ returns-2 c =
     (e ∙ ap (λ (t : Bool). offsetOf t (2 ^ (s .args .bits - 1))) (sym (c .if1 .left)), subst (λ (n : ℕ). n ≤ 128) (sym e) (small (s .args .bits - 1) (omega arith)))
 
 pub offset-spec : {M : Type 1} → statement M
-offset-spec = tie.close (tie.spec returns sub-result shl-result returns-2)
+offset-spec = tie.close (tie.spec returns (λ c. search needs) (λ c. search needs) returns-2)

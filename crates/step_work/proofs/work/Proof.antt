@@ -15,9 +15,6 @@ element-is s = sym (ap (λ (e : Entry). e .element) (s .pre .0 .1))
 count-requires : tie.Need-count-requires
 count-requires c κs = let e = element-is (c .before .before .before .before .before .before .before) in search needs
 
-same-length : tie.Need-same-length
-same-length c = search needs
-
 returns : tie.Need-returns
 returns c =
     let t = c .before .before .before .before in
@@ -28,12 +25,6 @@ returns c =
 multiply-requires : tie.Need-multiply-requires
 multiply-requires c κs = let e = element-is (c .before .before .before .before .before .before .before) in search needs
 
-same-length-2 : tie.Need-same-length-2
-same-length-2 c = search needs
-
-returns-2 : tie.Need-returns-2
-returns-2 c = search needs
-
 pub work-spec : {M : Type 1} → statement M
 work-spec =
-    tie.close (tie.spec count-requires same-length returns multiply-requires same-length-2 returns-2)
+    tie.close (tie.spec count-requires (λ c. search needs) returns multiply-requires (λ c. search needs) (λ c. search needs))

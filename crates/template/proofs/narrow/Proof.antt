@@ -22,23 +22,11 @@ loop-holds : tie.Need-loop-holds Inv-loop μ-loop
 unfolding fills
 loop-holds c = (omega arith, refl, refl)
 
-mul-record : tie.Need-mul-record Inv-loop μ-loop
-mul-record c = search needs
-
-shared-slice-read-record : tie.Need-shared-slice-read-record Inv-loop μ-loop
-shared-slice-read-record c = search needs
-
 cast-record : tie.Need-cast-record Inv-loop μ-loop
 cast-record c = let s = c .before .before .before in omega (arith, s .pre .0 (c .before .before .loop .x) (c .before .loop-test .taken))
 
 slice-write-record : tie.Need-slice-write-record Inv-loop μ-loop
 slice-write-record c = omega (arith, c .before .before .before .pre .1)
-
-add-x : tie.Need-add-x Inv-loop μ-loop
-add-x c = search needs
-
-loop-less : tie.Need-loop-less Inv-loop μ-loop
-loop-less c = omega arith
 
 loop-again : tie.Need-loop-again Inv-loop μ-loop
 loop-again c =
@@ -67,12 +55,12 @@ narrow-spec =
     Inv-loop
     μ-loop
     loop-holds
-    mul-record
-    shared-slice-read-record
+    (λ c. search needs)
+    (λ c. search needs)
     cast-record
     slice-write-record
-    add-x
-    loop-less
+    (λ c. search needs)
+    (λ c. omega arith)
     loop-again
     same-length
     returns)

@@ -17,26 +17,14 @@ use Rattle.buffers.proofs.Round.{unpacked-fits, unpacked-length}
 use Rattle.template.proofs.write.Statement.{statement}
 use Rattle.template.proofs.write.Tie as tie
 
-returns : tie.Need-returns
-returns c = search needs
-
-returns-2 : tie.Need-returns-2
-returns-2 c = search needs
-
 of-requires : tie.Need-of-requires
 of-requires c κs = (omega arith, omega arith, omega arith)
-
-slice-aggregate-fill : tie.Need-slice-aggregate-fill
-slice-aggregate-fill c = search needs
 
 fill-requires : tie.Need-fill-requires
 fill-requires c κs =
     let o = c .before in
     let is = sym (o .of .ensures .0) in
     record { laid = o .of .ensures .1; words = o .before .before .if1 .left ∙ ap (λ (f : Layout). 32 * f .words) is; entries = ap (λ (f : Layout). rowsOf f * columnsOf f) is }
-
-slice-aggregate-narrow : tie.Need-slice-aggregate-narrow
-slice-aggregate-narrow c = search needs
 
 narrow-requires : tie.Need-narrow-requires
 narrow-requires c κs =
@@ -47,9 +35,6 @@ narrow-requires c κs =
     let f = layoutAt templateKind templateRole in
     let e = w .fill .ensures ∙ ap (λ (f : Layout). unpacked f ws) (o .of .ensures .0) in
     (subst (Fitting 8) (sym e) (unpacked-fits f template-laid ws), e2 .if2 .left ∙ sym (ap length e ∙ unpacked-length f template-laid ws))
-
-same-length : tie.Need-same-length
-same-length c = search needs
 
 returns-3 : tie.Need-returns-3
 returns-3 c =
@@ -64,12 +49,12 @@ pub write-spec : {M : Type 1} → statement M
 write-spec =
     tie.close
     (tie.spec
-    returns
-    returns-2
+    (λ c. search needs)
+    (λ c. search needs)
     of-requires
-    slice-aggregate-fill
+    (λ c. search needs)
     fill-requires
-    slice-aggregate-narrow
+    (λ c. search needs)
     narrow-requires
-    same-length
+    (λ c. search needs)
     returns-3)

@@ -7,31 +7,16 @@ use Rattle.text.proofs.Laws.{put-put, put-same, two-digits}
 use Rattle.text.proofs.put_two_digits.Statement.{statement}
 use Rattle.text.proofs.put_two_digits.Tie as tie
 
-cast-put : tie.Need-cast-put
-cast-put c = search needs
-
-add-put : tie.Need-add-put
-add-put c = search needs
-
 put-requires : tie.Need-put-requires
 put-requires c κs =
     let s = c .before .before in
     omega (arith, ap length (two-digits 18 (s .args .n) (s .pre .0) (s .pre .1)), s .pre .2)
-
-cast-put-2 : tie.Need-cast-put-2
-cast-put-2 c = search needs
-
-add-put-2 : tie.Need-add-put-2
-add-put-2 c = search needs
 
 put-requires-2 : tie.Need-put-requires-2
 put-requires-2 c κs =
     let s = c .before .before .before .before .before .before in
     let p = c .before .before .before .put .ensures in
     omega (arith, ap length (two-digits 18 (s .args .n) (s .pre .0) (s .pre .1)), s .pre .2, p .ends, p .keeps)
-
-same-length : tie.Need-same-length
-same-length c = search needs
 
 returns : tie.Need-returns
 returns c =
@@ -44,11 +29,11 @@ pub put-two-digits-spec : {M : Type 1} → statement M
 put-two-digits-spec =
     tie.close
     (tie.spec
-    cast-put
-    add-put
+    (λ c. search needs)
+    (λ c. search needs)
     put-requires
-    cast-put-2
-    add-put-2
+    (λ c. search needs)
+    (λ c. search needs)
     put-requires-2
-    same-length
+    (λ c. search needs)
     returns)

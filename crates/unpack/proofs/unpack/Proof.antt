@@ -16,20 +16,8 @@ use Rattle.unpack.proofs.ByLayout.{unpack-is}
 use Rattle.unpack.proofs.unpack.Statement.{statement}
 use Rattle.unpack.proofs.unpack.Tie as tie
 
-layout-of-requires : tie.Need-layout-of-requires
-layout-of-requires c κs = search needs
-
-enum-known-f : tie.Need-enum-known-f
-enum-known-f c = search needs
-
 unpack-in-requires : tie.Need-unpack-in-requires
 unpack-in-requires c κs = known-sane _ _ _ (c .before .before .before .before .layout-of .ensures) _ (c .before .before .f .given .1)
-
-enum-known-x : tie.Need-enum-known-x
-enum-known-x c = search needs
-
-same-length : tie.Need-same-length
-same-length c = search needs
 
 returns : tie.Need-returns
 returns c =
@@ -55,10 +43,10 @@ pub unpack-spec : {M : Type 1} → statement M
 unpack-spec =
     tie.close
     (tie.spec
-    layout-of-requires
-    enum-known-f
+    (λ c κs. search needs)
+    (λ c. search needs)
     unpack-in-requires
-    enum-known-x
-    same-length
+    (λ c. search needs)
+    (λ c. search needs)
     returns
     returns-2)

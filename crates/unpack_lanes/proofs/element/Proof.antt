@@ -55,9 +55,6 @@ module _ (k : tie.After-shared-slice-known) where
         let b = in-buffer 1 0 (one-word f ne) (omega arith) in
         (b .0, omega arith, omega arith)
 
-cast-at : tie.Need-cast-at
-cast-at c = search needs
-
 mul-at : tie.Need-mul-at
 mul-at c = let s = c .before .before .before in omega (arith, lane-small (s .args .f) (s .pre .0) (s .args .lane .0) (s .pre .4))
 
@@ -82,12 +79,6 @@ add-word-3 c = omega (arith, pair (c .before .before .before .before .before) (c
 word-requires-2 : tie.Need-word-requires-2
 word-requires-2 c κs = omega (arith, pair (c .before .before .before .before .before) (c .before .if1 .taken))
 
-mul-result : tie.Need-mul-result
-mul-result c = search needs
-
-add-result : tie.Need-add-result
-add-result c = search needs
-
 returns : tie.Need-returns
 returns c = ap₂ (λ (x y : ℕ). x * 4294967296 + y) (c .word2 .ensures .0) (c .before .word .ensures .0) ∙ two (c .before .before .before .before .before .before) (c .before .before .if1 .taken)
 
@@ -110,7 +101,7 @@ pub element-spec : {M : Type 1} → statement M
 element-spec =
     tie.close
     (tie.spec
-    cast-at
+    (λ c. search needs)
     mul-at
     mul-word
     add-word
@@ -119,8 +110,8 @@ element-spec =
     add-word-2
     add-word-3
     word-requires-2
-    mul-result
-    add-result
+    (λ c. search needs)
+    (λ c. search needs)
     returns
     add-word-4
     word-requires-3

@@ -34,12 +34,6 @@ fill-lane-requires c κs =
     let s = c .before .before .before .before .before .before in
     (record { laid = s .pre .0 .laid; words = s .pre .0 .words; entries = c .before .before .before .loop .inv .1 .same ∙ s .pre .0 .entries }, s .pre .1, omega (arith, c .lane .ensures, c .before .before .loop-test .taken, s .pre .2))
 
-add-t : tie.Need-add-t Inv-loop μ-loop
-add-t c = search needs
-
-loop-less : tie.Need-loop-less Inv-loop μ-loop
-loop-less c = search needs
-
 loop-again : tie.Need-loop-again Inv-loop μ-loop
 loop-again c =
     let i = c .before .before .before .before .before in
@@ -68,8 +62,8 @@ fill-quad-spec =
     loop-holds
     lane-requires
     fill-lane-requires
-    add-t
-    loop-less
+    (λ c. search needs)
+    (λ c. search needs)
     loop-again
     same-length
     returns)

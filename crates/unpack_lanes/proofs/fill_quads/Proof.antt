@@ -27,12 +27,6 @@ fill-quad-requires c κs =
     let s = c .before .before .before .before .before in
     (record { laid = s .pre .0 .laid; words = s .pre .0 .words; entries = c .before .before .loop .inv .1 .same ∙ s .pre .0 .entries }, s .pre .1, c .before .loop-test .taken)
 
-add-quad : tie.Need-add-quad Inv-loop μ-loop
-add-quad c = search needs
-
-loop-less : tie.Need-loop-less Inv-loop μ-loop
-loop-less c = search needs
-
 loop-again : tie.Need-loop-again Inv-loop μ-loop
 loop-again c =
     let i = c .before .before .before .before in
@@ -56,8 +50,8 @@ fill-quads-spec =
     μ-loop
     loop-holds
     fill-quad-requires
-    add-quad
-    loop-less
+    (λ c. search needs)
+    (λ c. search needs)
     loop-again
     same-length
     returns)

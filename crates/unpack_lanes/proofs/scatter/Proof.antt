@@ -53,12 +53,6 @@ mul-matrix-2 c = omega (arith, offset (c .before))
 slice-write-matrix : tie.Need-slice-write-matrix Inv-loop μ-loop
 slice-write-matrix c = inside (c .before)
 
-add-j : tie.Need-add-j Inv-loop μ-loop
-add-j c = omega arith
-
-loop-less : tie.Need-loop-less Inv-loop μ-loop
-loop-less c = omega arith
-
 loop-again : tie.Need-loop-again Inv-loop μ-loop
 loop-again c =
     let s = S (c .before) .args in
@@ -87,8 +81,8 @@ scatter-spec =
     add-matrix
     mul-matrix-2
     slice-write-matrix
-    add-j
-    loop-less
+    (λ c. omega arith)
+    (λ c. omega arith)
     loop-again
     same-length
     returns)

@@ -10,15 +10,6 @@ use Rattle.words.specs.Words.{wordsOf}
 use Rattle.wazimroot.proofs.wz_feed.Statement.{statement}
 use Rattle.wazimroot.proofs.wz_feed.Tie as tie
 
-taken-requires : tie.Need-taken-requires
-taken-requires c κs = search needs
-
-feed-requires : tie.Need-feed-requires
-feed-requires c κs = search needs
-
-put-fed-requires : tie.Need-put-fed-requires
-put-fed-requires c κs = search needs
-
 returns : tie.Need-returns
 returns c =
     let f = c .before .before in
@@ -27,4 +18,4 @@ returns c =
     left-after wordsOf met (c .put-fed .ensures .0) (c .put-fed .ensures .1)
 
 pub wz-feed-spec : {M : Type 1} → statement M
-wz-feed-spec = tie.close (tie.spec taken-requires feed-requires put-fed-requires returns)
+wz-feed-spec = tie.close (tie.spec (λ c κs. search needs) (λ c κs. search needs) (λ c κs. search needs) returns)

@@ -7,21 +7,6 @@ use Rattle.words.specs.Words.{pairOf}
 use Rattle.wazimroot.proofs.wz_find.Statement.{statement}
 use Rattle.wazimroot.proofs.wz_find.Tie as tie
 
-find-requires : tie.Need-find-requires
-find-requires c κs = search needs
-
-enum-known-lane : tie.Need-enum-known-lane
-enum-known-lane c = search needs
-
-put-pair-requires : tie.Need-put-pair-requires
-put-pair-requires c κs = search needs
-
-enum-known-refusal : tie.Need-enum-known-refusal
-enum-known-refusal c = search needs
-
-code-requires : tie.Need-code-requires
-code-requires c κs = search needs
-
 returns : tie.Need-returns
 returns c = reply-given pairOf (c .before .before .before .before .before .find .ensures) (ap toldHolder (c .before .before .before .lane .given .1)) (c .put-pair .ensures)
 
@@ -30,4 +15,4 @@ returns-2 c = reply-refused pairOf (c .before .before .before .before .find .ens
 
 pub wz-find-spec : {M : Type 1} → statement M
 wz-find-spec =
-    tie.close (tie.spec find-requires enum-known-lane put-pair-requires enum-known-refusal code-requires returns returns-2)
+    tie.close (tie.spec (λ c κs. search needs) (λ c. search needs) (λ c κs. search needs) (λ c. search needs) (λ c κs. search needs) returns returns-2)

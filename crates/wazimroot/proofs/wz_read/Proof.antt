@@ -15,18 +15,6 @@ use Rattle.wazimroot.proofs.wz_read.Tie as tie
 met : {taken run left : Run} {d out : List ℕ} {verdict : Verdict} → taken ≡ run → Meets (readCall taken d) (d, taken) verdict (out, left) → Meets (readCall run d) (d, run) verdict (out, left)
 met {left = left} {d = d} {out = out} {verdict = verdict} e m = subst (λ (x : Run). Meets (readCall x d) (d, x) verdict (out, left)) e m
 
-taken-requires : tie.Need-taken-requires
-taken-requires c κs = search needs
-
-read-requires : tie.Need-read-requires
-read-requires c κs = search needs
-
-code-of-requires : tie.Need-code-of-requires
-code-of-requires c κs = search needs
-
-same-length : tie.Need-same-length
-same-length c = search needs
-
 returns : tie.Need-returns
 returns c =
     let r = c .before .before .before in
@@ -34,4 +22,4 @@ returns c =
 
 pub wz-read-spec : {M : Type 1} → statement M
 wz-read-spec =
-    tie.close (tie.spec taken-requires read-requires code-of-requires same-length returns)
+    tie.close (tie.spec (λ c κs. search needs) (λ c κs. search needs) (λ c κs. search needs) (λ c. search needs) returns)

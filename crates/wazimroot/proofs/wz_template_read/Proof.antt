@@ -4,17 +4,8 @@ use Rattle.answers.proofs.Codes.{coded}
 use Rattle.wazimroot.proofs.wz_template_read.Statement.{statement}
 use Rattle.wazimroot.proofs.wz_template_read.Tie as tie
 
-read-requires : tie.Need-read-requires
-read-requires c κs = search needs
-
-code-of-requires : tie.Need-code-of-requires
-code-of-requires c κs = search needs
-
-same-length : tie.Need-same-length
-same-length c = search needs
-
 returns : tie.Need-returns
 returns c = coded (c .before .before .before .read .ensures) (c .code-of .ensures)
 
 pub wz-template-read-spec : {M : Type 1} → statement M
-wz-template-read-spec = tie.close (tie.spec read-requires code-of-requires same-length returns)
+wz-template-read-spec = tie.close (tie.spec (λ c κs. search needs) (λ c κs. search needs) (λ c. search needs) returns)

@@ -39,18 +39,6 @@ whole c =
     let r = S d .args .run in
     c .put-head .ensures ∙ ap (λ (zs : List ℕ). r .kind .0 ∷ r .signs .0 ∷ r .mode .0 ∷ r .blocks ∷ zs) (is-behind d)
 
-slice-aggregate-copy : tie.Need-slice-aggregate-copy
-slice-aggregate-copy c = search needs
-
-sub-copy : tie.Need-sub-copy
-sub-copy c = search needs
-
-part-copy-start : tie.Need-part-copy-start
-part-copy-start c = search needs
-
-part-copy-end : tie.Need-part-copy-end
-part-copy-end c = search needs
-
 copy-requires : tie.Need-copy-requires
 copy-requires c κs = let s = c .before .before .before .before in long s ∙ sym (length-lent (now (s .args .words)) (s .pre))
 
@@ -68,4 +56,4 @@ returns c = whole (c .before .before)
 pub put-spec : {M : Type 1} → statement M
 put-spec =
     tie.close
-    (tie.spec slice-aggregate-copy sub-copy part-copy-start part-copy-end copy-requires put-head-requires same-length returns)
+    (tie.spec (λ c. search needs) (λ c. search needs) (λ c. search needs) (λ c. search needs) copy-requires put-head-requires same-length returns)

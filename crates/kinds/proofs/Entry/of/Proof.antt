@@ -5,18 +5,6 @@ use Rattle.kinds.proofs.Table.{element-pos}
 use Rattle.kinds.proofs.Entry.of.Statement.{statement}
 use Rattle.kinds.proofs.Entry.of.Tie as tie
 
-sub-line : tie.Need-sub-line
-sub-line c = search needs
-
-cast-line : tie.Need-cast-line
-cast-line c = search needs
-
-mul-line : tie.Need-mul-line
-mul-line c = search needs
-
-array-copy-out-line : tie.Need-array-copy-out-line
-array-copy-out-line c = search needs
-
 returns : tie.Need-returns
 returns c =
     let s = c .before .before in
@@ -24,4 +12,4 @@ returns c =
 
 pub of-spec : {M : Type 1} → statement M
 of-spec =
-    tie.close (tie.spec sub-line cast-line mul-line array-copy-out-line returns)
+    tie.close (tie.spec (λ c. search needs) (λ c. search needs) (λ c. search needs) (λ c. search needs) returns)

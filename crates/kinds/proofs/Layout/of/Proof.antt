@@ -13,9 +13,6 @@ use Rattle.kinds.proofs.Layout.of.Tie as tie
 legal : (s : tie.Start) → Legal (s .args .kind .0) (s .args .role .0)
 legal s = record { low = s .pre .0; high = s .pre .1; role = s .pre .2 }
 
-of-requires : tie.Need-of-requires
-of-requires c κs = search needs
-
 layout-in-requires : tie.Need-layout-in-requires
 layout-in-requires c κs =
     let s = c .before in
@@ -28,4 +25,4 @@ returns c =
     (e, subst Laid (sym e) (sane _ _ (legal s)))
 
 pub of-spec : {M : Type 1} → statement M
-of-spec = tie.close (tie.spec of-requires layout-in-requires returns)
+of-spec = tie.close (tie.spec (λ c κs. search needs) layout-in-requires returns)

@@ -17,9 +17,6 @@ line-has s e p r h =
     let ok : Legal (s .args .kind .0) r = record { low = s .pre .0; high = s .pre .1; role = h } in
     (subst (λ (e : Entry). 0 < e .bits) (sym p) (bits-pos _ r ok), subst (λ (e : Entry). 0 < sideOf (e .bits)) (sym p) (side-pos _ r ok), h)
 
-of-requires : tie.Need-of-requires
-of-requires c κs = search needs
-
 layout-in-requires : tie.Need-layout-in-requires
 layout-in-requires c κs = line-has (c .before) _ (c .of .ensures .0) 0 (omega arith)
 
@@ -39,4 +36,4 @@ returns c = made _ _ (c .before .before .before .of .ensures .0) _ _ _ (c .befor
 pub of-spec : {M : Type 1} → statement M
 of-spec =
     tie.close
-    (tie.spec of-requires layout-in-requires layout-in-requires-2 layout-in-requires-3 returns)
+    (tie.spec (λ c κs. search needs) layout-in-requires layout-in-requires-2 layout-in-requires-3 returns)

@@ -11,18 +11,6 @@ use Rattle.kinds.proofs.rule.across.Tie as tie
 small : (c : tie.After-remainder) → c .remainder .result < 2
 small c = let s = c .before .before .before in omega (arith, mod-lt (s .args .element .0 / s .args .side) (s .pre .1), s .pre, c .remainder .ensures)
 
-cast-l : tie.Need-cast-l
-cast-l c = search needs
-
-cast-i : tie.Need-cast-i
-cast-i c = search needs
-
-div-remainder : tie.Need-div-remainder
-div-remainder c = search needs
-
-remainder-requires : tie.Need-remainder-requires
-remainder-requires c κs = search needs
-
 mul-result : tie.Need-mul-result
 mul-result c = omega (arith, small c)
 
@@ -34,4 +22,4 @@ unfolding major
 returns c = (ap (λ (n : ℕ). n * 8 + c .before .before .before .args .lane .0 / 4) (c .remainder .ensures), omega (arith, small c))
 
 pub across-spec : {M : Type 1} → statement M
-across-spec = tie.close (tie.spec cast-l cast-i div-remainder remainder-requires mul-result add-result returns)
+across-spec = tie.close (tie.spec (λ c. search needs) (λ c. search needs) (λ c. search needs) (λ c κs. search needs) mul-result add-result returns)

@@ -7,9 +7,6 @@ use Rattle.kinds.proofs.Digits.{group-small, element-small}
 use Rattle.kinds.proofs.rule.element_at.Statement.{statement}
 use Rattle.kinds.proofs.rule.element_at.Tie as tie
 
-div-result : tie.Need-div-result
-div-result c = search needs
-
 mul-result : tie.Need-mul-result
 mul-result c = omega (arith, group-small (c .args .side) (c .args .halves) (c .args .y) (search needs))
 
@@ -18,9 +15,6 @@ add-result c = omega (arith, group-small (c .args .side) (c .args .halves) (c .a
 
 mul-result-2 : tie.Need-mul-result-2
 mul-result-2 c = omega (arith, element-small (c .args .side) (c .args .halves) (c .args .x) (c .args .y) (search needs) (search needs) (search needs) (search needs) (search needs))
-
-rem-result : tie.Need-rem-result
-rem-result c = search needs
 
 add-result-2 : tie.Need-add-result-2
 add-result-2 c = omega (arith, element-small (c .args .side) (c .args .halves) (c .args .x) (c .args .y) (search needs) (search needs) (search needs) (search needs) (search needs))
@@ -32,4 +26,4 @@ returns c = (refl, element-small (c .args .side) (c .args .halves) (c .args .x) 
 pub element-at-spec : {M : Type 1} → statement M
 element-at-spec =
     tie.close
-    (tie.spec div-result mul-result add-result mul-result-2 rem-result add-result-2 returns)
+    (tie.spec (λ c. search needs) mul-result add-result mul-result-2 (λ c. search needs) add-result-2 returns)

@@ -25,12 +25,6 @@ module _ (c : tie.After-of2) where
   inside : (c .of2 .result .c ≤ 128) × (length (S .args .self .sums) ≡ 128)
   inside = (omega (arith, used-le (S .args .self .kind .0) (S .pre .0 .0 .of), is), long S)
 
-add-blocks : tie.Need-add-blocks
-add-blocks c = search needs
-
-of-requires : tie.Need-of-requires
-of-requires c κs = search needs
-
 of-requires-2 : tie.Need-of-requires-2
 of-requires-2 c κs = c .of .ensures .0
 
@@ -69,8 +63,8 @@ pub fed-spec : {M : Type 1} → statement M
 fed-spec =
     tie.close
     (tie.spec
-    add-blocks
-    of-requires
+    (λ c. search needs)
+    (λ c κs. search needs)
     of-requires-2
     array-share-prefix-c
     slice-aggregate-work

@@ -5,19 +5,10 @@ use Rattle.run.proofs.Laws.{fed-passes}
 use Rattle.run.proofs.Run.feed.Statement.{statement}
 use Rattle.run.proofs.Run.feed.Tie as tie
 
-judge-feed-requires : tie.Need-judge-feed-requires
-judge-feed-requires c κs = search needs
-
-enum-told : tie.Need-enum-told
-enum-told c = search needs
-
 fed-requires : tie.Need-fed-requires
 fed-requires c κs =
     let r = fed-passes (c .before .before .before .before .before .args .self) _ _ (admitted (c .before .before .judge-feed .ensures) (c .enum-told .given .1)) in
     ((r .0, r .1), (r .2, r .3))
-
-enum-told-2 : tie.Need-enum-told-2
-enum-told-2 c = search needs
 
 returns : tie.Need-returns
 returns c = worked (c .before .before .before .judge-feed .ensures) (c .before .enum-told .given .1) (c .fed .ensures)
@@ -27,4 +18,4 @@ returns-2 c = kept (c .before .before .judge-feed .ensures) (c .enum-told2 .give
 
 pub feed-spec : {M : Type 1} → statement M
 feed-spec =
-    tie.close (tie.spec judge-feed-requires enum-told fed-requires enum-told-2 returns returns-2)
+    tie.close (tie.spec (λ c κs. search needs) (λ c. search needs) fed-requires (λ c. search needs) returns returns-2)

@@ -9,15 +9,6 @@ use Rattle.run.proofs.Laws.{sound, sound-back}
 use Rattle.run.proofs.Run.judge.Statement.{statement}
 use Rattle.run.proofs.Run.judge.Tie as tie
 
-select-requires : tie.Need-select-requires
-select-requires c κs = search needs
-
-enum-told : tie.Need-enum-told
-enum-told c = search needs
-
-enum-told-2 : tie.Need-enum-told-2
-enum-told-2 c = search needs
-
 returns : tie.Need-returns
 returns c =
     let self = c .before .before .before .before .before .before .args .self in
@@ -35,4 +26,4 @@ returns-3 c =
     skips (hidden (badRun self) (sound-back self (r .0) (c .if1 .left))) (accepts refl)
 
 pub judge-spec : {M : Type 1} → statement M
-judge-spec = tie.close (tie.spec select-requires enum-told enum-told-2 returns returns-2 returns-3)
+judge-spec = tie.close (tie.spec (λ c κs. search needs) (λ c. search needs) (λ c. search needs) returns returns-2 returns-3)

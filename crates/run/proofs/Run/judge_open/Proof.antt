@@ -10,17 +10,8 @@ use Rattle.step.proofs.Accepted.{selected, selected-line, rejected}
 use Rattle.run.proofs.Run.judge_open.Statement.{statement}
 use Rattle.run.proofs.Run.judge_open.Tie as tie
 
-select-requires : tie.Need-select-requires
-select-requires c κs = search needs
-
-enum-known-line : tie.Need-enum-known-line
-enum-known-line c = search needs
-
 judge-sums-requires : tie.Need-judge-sums-requires
 judge-sums-requires c κs = selected-line _ _ _ _ (c .before .before .before .select .ensures) _ (c .before .line .given .1) .1
-
-enum-known-x : tie.Need-enum-known-x
-enum-known-x c = search needs
 
 returns : tie.Need-returns
 returns c = continues (selected _ _ _ _ (c .before .before .before .before .select .ensures) _ (c .before .before .line .given .1)) refl (c .judge-sums .ensures)
@@ -34,4 +25,4 @@ returns-2 c =
 pub judge-open-spec : {M : Type 1} → statement M
 judge-open-spec =
     tie.close
-    (tie.spec select-requires enum-known-line judge-sums-requires enum-known-x returns returns-2)
+    (tie.spec (λ c κs. search needs) (λ c. search needs) judge-sums-requires (λ c. search needs) returns returns-2)

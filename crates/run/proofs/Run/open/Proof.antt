@@ -7,17 +7,8 @@ use Rattle.run.proofs.Laws.{open-passes}
 use Rattle.run.proofs.Run.open.Statement.{statement}
 use Rattle.run.proofs.Run.open.Tie as tie
 
-judge-open-requires : tie.Need-judge-open-requires
-judge-open-requires c κs = search needs
-
-enum-told : tie.Need-enum-told
-enum-told c = search needs
-
 opened-requires : tie.Need-opened-requires
 opened-requires c κs = open-passes _ _ _ _ (admitted (c .before .before .judge-open .ensures) (c .enum-told .given .1))
-
-enum-told-2 : tie.Need-enum-told-2
-enum-told-2 c = search needs
 
 returns : tie.Need-returns
 returns c = worked (c .before .before .before .judge-open .ensures) (c .before .enum-told .given .1) (c .opened .ensures)
@@ -29,4 +20,4 @@ returns-2 c = kept (c .before .before .judge-open .ensures) (c .enum-told2 .give
 pub open-spec : {M : Type 1} → statement M
 open-spec =
     tie.close
-    (tie.spec judge-open-requires enum-told opened-requires enum-told-2 returns returns-2)
+    (tie.spec (λ c κs. search needs) (λ c. search needs) opened-requires (λ c. search needs) returns returns-2)
