@@ -91,7 +91,7 @@ static uint64_t judge_role(uint32_t kind, uint32_t role) {
     return 0;
 }
 
-uint64_t plain_c_place(uint32_t kind, uint32_t role, uint32_t lane, uint32_t element, uint32_t out[2]) {
+uint64_t plain_c_place(uint32_t kind, uint32_t role, uint32_t lane, uint32_t element, uint32_t out[4]) {
     uint64_t refused = judge_role(kind, role);
     if (refused)
         return refused;
@@ -101,6 +101,8 @@ uint64_t plain_c_place(uint32_t kind, uint32_t role, uint32_t lane, uint32_t ele
     struct place at = place_of(&l, lane, element / l.side, element % l.side);
     out[0] = (uint32_t)at.row;
     out[1] = (uint32_t)at.column;
+    out[2] = (uint32_t)(element * l.bits / WORD_BITS);
+    out[3] = (uint32_t)(element * l.bits % WORD_BITS);
     return 0;
 }
 

@@ -66,7 +66,7 @@ declare! {
 }
 
 pub trait Calls {
-    fn place(&self, kind: u32, role: u32, lane: u32, element: u32, out: &mut [u32; 2]) -> u64;
+    fn place(&self, kind: u32, role: u32, lane: u32, element: u32, out: &mut [u32; 4]) -> u64;
     fn find(&self, kind: u32, role: u32, row: u32, column: u32, out: &mut [u32; 2]) -> u64;
     fn unpack(&self, kind: u32, role: u32, words: &[u32], matrix: &mut [u64]) -> u64;
     fn pack(&self, kind: u32, role: u32, matrix: &[u64], words: &mut [u32]) -> u64;
@@ -86,7 +86,7 @@ pub trait Calls {
 // many elements as its length says, an array to as many as its type says, neither is null, and what
 // is lent for writing overlaps nothing else.
 impl Calls for Table {
-    fn place(&self, kind: u32, role: u32, lane: u32, element: u32, out: &mut [u32; 2]) -> u64 {
+    fn place(&self, kind: u32, role: u32, lane: u32, element: u32, out: &mut [u32; 4]) -> u64 {
         unsafe { (self.place)(kind, role, lane, element, out.as_mut_ptr()) }
     }
 

@@ -17,25 +17,25 @@ impl Rules {
     }
 }
 
-/// Writes a pair that is there.
-fn answer_pair(answer: u64, pair: Option<(u32, u32)>, out: &mut [u32; 2]) -> u64 {
-    if let (0, Some((first, second))) = (answer, pair) {
-        *out = [first, second];
+/// Writes numbers that are there.
+fn answer_with<const N: usize>(answer: u64, numbers: Option<[u32; N]>, out: &mut [u32; N]) -> u64 {
+    if let (0, Some(numbers)) = (answer, numbers) {
+        *out = numbers;
     }
     answer
 }
 
 impl Calls for Rules {
-    fn place(&self, kind: u32, role: u32, lane: u32, element: u32, out: &mut [u32; 2]) -> u64 {
+    fn place(&self, kind: u32, role: u32, lane: u32, element: u32, out: &mut [u32; 4]) -> u64 {
         let layout = self.layouts.get(kind, role);
-        let place = layout.and_then(|layout| layout.place(lane, element));
-        answer_pair(refusals::place(kind, role, place.is_none()), place, out)
+        let place = layout.and_then(|layout| layout.whole_place(lane, element));
+        answer_with(refusals::place(kind, role, place.is_none()), place, out)
     }
 
     fn find(&self, kind: u32, role: u32, row: u32, column: u32, out: &mut [u32; 2]) -> u64 {
         let layout = self.layouts.get(kind, role);
         let holder = layout.and_then(|layout| layout.holder(row, column));
-        answer_pair(refusals::place(kind, role, holder.is_none()), holder, out)
+        answer_with(refusals::place(kind, role, holder.is_none()), holder, out)
     }
 
     fn unpack(&self, kind: u32, role: u32, words: &[u32], matrix: &mut [u64]) -> u64 {

@@ -4,23 +4,25 @@ use crate::report::{shown, Difference, Tally};
 use crate::run::WORDS;
 use crate::wazimroot::Calls;
 
-/// Kind, role, lane, element; row, column.
-const PLACES: [([u32; 4], [u32; 2]); 13] = [
-    ([5, 0, 0, 16], [0, 32]),
-    ([3, 0, 5, 9], [1, 21]),
-    ([6, 0, 5, 1], [1, 3]),
-    ([8, 0, 5, 1], [9, 1]),
-    ([3, 1, 31, 7], [31, 7]),
-    ([2, 2, 6, 3], [9, 5]),
-    ([10, 1, 6, 0], [2, 1]),
-    // From the lookup program's example.
-    ([5, 0, 0x1f, 0x1f], [15, 63]),
-    ([8, 0, 0x05, 0x01], [9, 1]),
-    // K5: "the third line of 01's lookup output becomes `0 0`", and places of the new kinds.
-    ([0x0b, 0, 0, 0], [0, 0]),
-    ([14, 0, 31, 127], [15, 255]),
-    ([13, 0, 5, 33], [9, 33]),
-    ([12, 1, 31, 7], [31, 7]),
+/// Kind, role, lane, element; row, column, word, bit.
+const PLACES: [([u32; 4], [u32; 4]); 15] = [
+    ([5, 0, 0, 16], [0, 32, 2, 0]),
+    ([3, 0, 5, 9], [1, 21, 2, 8]),
+    ([6, 0, 5, 1], [1, 3, 0, 16]),
+    ([8, 0, 5, 1], [9, 1, 1, 0]),
+    ([3, 1, 31, 7], [31, 7, 1, 24]),
+    ([2, 2, 6, 3], [9, 5, 3, 0]),
+    ([10, 1, 6, 0], [2, 1, 0, 0]),
+    // K9: "the first three lines become `15 63 3 28`, `9 1 1 0` and `0 0 0 0`".
+    ([5, 0, 0x1f, 0x1f], [15, 63, 3, 28]),
+    ([8, 0, 0x05, 0x01], [9, 1, 1, 0]),
+    ([0x0b, 0, 0, 0], [0, 0, 0, 0]),
+    // Places of K5's kinds; "for 64-bit elements the low word, bit 0"; two elements of 16 bits a word.
+    ([14, 0, 31, 127], [15, 255, 3, 31]),
+    ([13, 0, 5, 33], [9, 33, 1, 1]),
+    ([12, 1, 31, 7], [31, 7, 0, 28]),
+    ([9, 0, 0, 3], [8, 4, 6, 0]),
+    ([7, 2, 0, 3], [8, 1, 1, 16]),
 ];
 
 /// Kind, role, row, column; lane, element.
@@ -99,7 +101,7 @@ fn accepted(figure: impl FnOnce() -> String, answer: u64) -> Result<(), Differen
 fn places(calls: &dyn Calls) -> Result<(), Difference> {
     for (numbers, paper) in PLACES {
         let [kind, role, lane, element] = numbers;
-        let mut out = [u32::MAX; 2];
+        let mut out = [u32::MAX; 4];
         let answer = calls.place(kind, role, lane, element, &mut out);
         equal(|| format!("place {numbers:?}"), (answer, out), (0, paper))?;
     }
@@ -109,12 +111,12 @@ fn places(calls: &dyn Calls) -> Result<(), Difference> {
         let answer = calls.find(kind, role, row, column, &mut out);
         equal(|| format!("find {numbers:?}"), (answer, out), (0, paper))?;
     }
-    let mut out = [7; 2];
+    let mut out = [7; 4];
     let answer = calls.place(0x0f, 0, 0, 0, &mut out);
     equal(
         || "place of kind 15".to_string(),
         (answer, out),
-        (1, [7; 2]),
+        (1, [7; 4]),
     )
 }
 

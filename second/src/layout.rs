@@ -13,6 +13,7 @@ pub struct Layout {
     /// Words of a lane.
     pub words: usize,
     places: Vec<(u32, u32)>,
+    spots: Vec<(u32, u32)>,
     holders: Vec<(u32, u32)>,
 }
 
@@ -28,6 +29,7 @@ impl Layout {
             elements: words * 32 / bits,
             words: words as usize,
             places: Vec::new(),
+            spots: rules::spots(bits, words * 32 / bits),
             holders: Vec::new(),
         };
         for lane in 0..LANES {
@@ -73,12 +75,20 @@ impl Layout {
         Some(self.places[(lane * self.elements + element) as usize])
     }
 
+    /// Row, column, word and bit; `None` past the last lane or element.
+    pub fn whole_place(&self, lane: u32, element: u32) -> Option<[u32; 4]> {
+        let (row, column) = self.place(lane, element)?;
+        let (word, bit) = self.spots[element as usize];
+        Some([row, column, word, bit])
+    }
+
     /// Lane and element; `None` past the last row or column.
-    pub fn holder(&self, row: u32, column: u32) -> Option<(u32, u32)> {
+    pub fn holder(&self, row: u32, column: u32) -> Option<[u32; 2]> {
         if row >= self.rows || column >= self.columns {
             return None;
         }
-        Some(self.holders[(row * self.columns + column) as usize])
+        let (lane, element) = self.holders[(row * self.columns + column) as usize];
+        Some([lane, element])
     }
 
     /// Index in a row-major matrix of an element that is there.

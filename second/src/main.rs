@@ -23,7 +23,9 @@ mod values;
 mod wazimroot;
 
 use calls::Rules;
-use compare::{fragments, lengths, orders, places, runs, scales, steps, templates, trips, Bench};
+use compare::{
+    fragments, lengths, orders, places, probes, runs, scales, steps, templates, trips, Bench,
+};
 use random::Random;
 use report::{Difference, Tally};
 use std::process::exit;
@@ -68,7 +70,7 @@ fn arguments() -> Option<(Part, u64, u64)> {
 type Comparison = fn(&mut Bench) -> Result<Tally, Difference>;
 
 /// In such an order that the long ones fall to both parts of two.
-const COMPARISONS: [Comparison; 17] = [
+const COMPARISONS: [Comparison; 18] = [
     |bench| figures::figures(bench.library, bench.rules),
     places::wz_place,
     places::wz_find,
@@ -86,6 +88,7 @@ const COMPARISONS: [Comparison; 17] = [
     lengths::long_buffers,
     trips::round_trips,
     orders::runs,
+    probes::probes,
 ];
 
 /// Prints a line a comparison; gives how many cases were compared.

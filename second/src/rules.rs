@@ -81,6 +81,22 @@ pub fn place(number: u32, role: u32, lane: u32, i: u32) -> (u32, u32) {
     }
 }
 
+/// K9: "the word within the lane and the lowest bit in that word" of each element of a lane, laid one
+/// behind the other from the low bit of the first word up.
+pub fn spots(bits: u32, elements: u32) -> Vec<(u32, u32)> {
+    let (mut word, mut bit) = (0, 0);
+    let mut spots = Vec::new();
+    for _ in 0..elements {
+        spots.push((word, bit));
+        bit += bits;
+        while bit >= 32 {
+            bit -= 32;
+            word += 1;
+        }
+    }
+    spots
+}
+
 fn row_a(number: u32, g: u32, i: u32) -> u32 {
     let upper = match number {
         1 | 10 | 11 | 12 => true,

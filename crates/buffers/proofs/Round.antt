@@ -3,8 +3,8 @@
 use mathlib.Core.Path.{_≡_, sym, ap, ap₂, _∙_, subst}
 use mathlib.Core.Bool.{Bool, true, false}
 use mathlib.Core.List.{List}
-use Prim.Native.Nat.{ℕ, _+_, _*_, _/_, _%_, _^_, _<_}
-use native.Mathlib.Nat.{mod-eq-of-lt, mod-lt, div-add-mod', div-lt-iff-lt-mul}
+use Prim.Native.Nat.{ℕ, _+_, _*_, _/_, _%_, _^_, _≤_, _<_}
+use native.Mathlib.Nat.{mul-le-mul-left, mod-eq-of-lt, mod-lt, div-add-mod', div-lt-iff-lt-mul}
 use native.Mathlib.Omega.{arith}
 use lib.Arith.{digits-lt, digits-div, digits-mod}
 use lib.ListN.{length, getD}
@@ -18,8 +18,9 @@ use Rattle.kinds.specs.Workers.{Laid}
 use Rattle.kinds.specs.declared.Layout.{Layout}
 use Rattle.kinds.proofs.Digits.{lane-back, element-back, major-back, minor-back, lane-lt, element-lt, major-lt, minor-lt}
 use Rattle.places.proofs.ByRule.{turn-turn}
-use Rattle.buffers.specs.Buffers.{laneNumber, elementAt, index, entryAt, unpacked, wordAt, packed, Fitting}
-use Rattle.buffers.proofs.Elements.{turned-in}
+use Rattle.buffers.specs.Buffers.{elementAt, index, entryAt, unpacked, wordAt, packed, Fitting}
+use Rattle.buffers.proofs.Elements.{laneNumber, element-number, turned-in}
+use Rattle.buffers.proofs.Elements as elements
 use Rattle.buffers.proofs.Places.{place-in, columns-pos}
 
 turned-out : (t : Bool) (m n x y : ℕ) → x < m → y < n → turn t (x, y) .1 < turn t (m, n) .1
@@ -102,10 +103,17 @@ module _ (f : Layout) (ok : Laid f) where
         (λ z l. ap (λ (k : ℕ). getD m k 0) (sym (div-add-mod' z C)) ∙ entry-is (z / C) (z % C) (div-lt-iff-lt-mul (columns-pos f ok) .1 l) (mod-lt z (columns-pos f ok)))
 
   pub unpacked-fits : (ws : List ℕ) → Fitting (f .bits) (unpacked f ws)
-  unfolding unpacked entryAt elementAt
+  unfolding unpacked entryAt
   unpacked-fits ws z l =
       let e = getD-tab (rowsOf f * C) (blocks C (entryAt f ws)) z 0 (omega (arith, unpacked-length ws)) in
-      subst (λ (v : ℕ). v < 2 ^ f .bits) (sym e) (field-lt (f .bits) (holderOf f (z / C, z % C) .1) (laneNumber (f .words) ws (holderOf f (z / C, z % C) .0)))
+      subst (λ (v : ℕ). v < 2 ^ f .bits) (sym e) (elements.element-lt (f .bits) (f .words) ws (holderOf f (z / C, z % C) .0) (holderOf f (z / C, z % C) .1))
+
+  -- an element of the lane lies within its words, and a word within its elements
+  pub within : (i : ℕ) → i < elementsOf f → f .bits * (i + 1) ≤ 32 * f .words
+  within i h = let l : i + 1 ≤ elementsOf f = omega (arith, h) in omega (arith, mul-le-mul-left (f .bits) l, ok .full)
+
+  covers : (k : ℕ) → k < f .words → 32 * (k + 1) ≤ f .bits * elementsOf f
+  covers k h = omega (arith, ok .full)
 
   -- a word of a lane lies within the buffer
   word-in : (lane k : ℕ) → lane < lanes → k < f .words → lane * f .words + k < lanes * f .words
@@ -129,17 +137,28 @@ module _ (f : Layout) (ok : Laid f) where
     entry-fits : (lane : ℕ) → lane < lanes → (i : ℕ) → i < elementsOf f → entries m lane i < 2 ^ f .bits
     entry-fits lane hl i hi = fit (index C (placeIn f lane i)) (omega (arith, place-in f ok lane i hl hi))
 
+    -- each word is a field of that number
+    pub word-number : (lane k : ℕ) → lane < lanes → k < f .words → wordAt f m lane k ≡ field 32 k (joined (f .bits) (elementsOf f) (entries m lane))
+    unfolding wordAt
+    word-number lane k hl hk = elements.word-number (elementsOf f) (entries m lane) (f .bits) k (ok .width .pos) (covers k hk) (entry-fits lane hl)
+
     packed-number : (lane : ℕ) → lane < lanes → laneNumber (f .words) (packed f m) lane ≡ joined (f .bits) (elementsOf f) (entries m lane)
-    unfolding laneNumber wordAt
+    unfolding laneNumber
     packed-number lane hl =
-        joined-ext 32 (f .words) (λ k. getD (packed f m) (lane * f .words + k) 0) (λ k. field 32 k (joined (f .bits) (elementsOf f) (entries m lane))) (λ k hk. packed-word m lane k hl hk)
+        joined-ext 32 (f .words) (λ k. getD (packed f m) (lane * f .words + k) 0) (λ k. field 32 k (joined (f .bits) (elementsOf f) (entries m lane)))
+        (λ k hk. packed-word m lane k hl hk ∙ word-number lane k hl hk)
         ∙ joined-field 32 (f .words) (joined (f .bits) (elementsOf f) (entries m lane))
         ∙ mod-eq-of-lt (subst (λ (e : ℕ). joined (f .bits) (elementsOf f) (entries m lane) < 2 ^ e) (ok .full) (joined-lt (f .bits) (elementsOf f) (entries m lane) (entry-fits lane hl)))
 
+    packed-fits : (lane : ℕ) → lane < lanes → (k : ℕ) → k < f .words → getD (packed f m) (lane * f .words + k) 0 < 2 ^ 32
+    packed-fits lane hl k hk = subst (λ (w : ℕ). w < 2 ^ 32) (sym (packed-word m lane k hl hk ∙ word-number lane k hl hk)) (field-lt 32 k _)
+
     -- each element of what packing gives is the entry at its place
     pub packed-at : (lane i : ℕ) → lane < lanes → i < elementsOf f → elementAt (f .bits) (f .words) (packed f m) lane i ≡ getD m (index C (placeIn f lane i)) 0
-    unfolding elementAt
-    packed-at lane i hl hi = ap (field (f .bits) i) (packed-number lane hl) ∙ field-joined (f .bits) (elementsOf f) (entries m lane) (entry-fits lane hl) i hi
+    packed-at lane i hl hi =
+        element-number (f .words) (packed f m) lane (packed-fits lane hl) (f .bits) i (ok .width) (within i hi)
+        ∙ ap (field (f .bits) i) (packed-number lane hl)
+        ∙ field-joined (f .bits) (elementsOf f) (entries m lane) (entry-fits lane hl) i hi
 
     pub pack-unpack : unpacked f (packed f m) ≡ m
     pack-unpack = sym (unpacked-only (packed f m) m n (λ lane i hl hi. sym (packed-at lane i hl hi)))
@@ -149,15 +168,19 @@ module _ (f : Layout) (ok : Laid f) where
     word-fits lane hl k hk = fit (lane * f .words + k) (omega (arith, word-in lane k hl hk))
 
     unpacked-number : (lane : ℕ) → lane < lanes → joined (f .bits) (elementsOf f) (entries (unpacked f ws) lane) ≡ laneNumber (f .words) ws lane
-    unfolding elementAt laneNumber
+    unfolding laneNumber
     unpacked-number lane hl =
-        joined-ext (f .bits) (elementsOf f) (entries (unpacked f ws) lane) (λ i. field (f .bits) i (laneNumber (f .words) ws lane)) (λ i hi. unpacked-at ws lane i hl hi)
+        joined-ext (f .bits) (elementsOf f) (entries (unpacked f ws) lane) (λ i. field (f .bits) i (laneNumber (f .words) ws lane))
+        (λ i hi. unpacked-at ws lane i hl hi ∙ element-number (f .words) ws lane (word-fits lane hl) (f .bits) i (ok .width) (within i hi))
         ∙ joined-field (f .bits) (elementsOf f) (laneNumber (f .words) ws lane)
         ∙ mod-eq-of-lt (subst (λ (e : ℕ). laneNumber (f .words) ws lane < 2 ^ e) (sym (ok .full)) (joined-lt 32 (f .words) (λ k. getD ws (lane * f .words + k) 0) (word-fits lane hl)))
 
     unpacked-word : (lane k : ℕ) → lane < lanes → k < f .words → wordAt f (unpacked f ws) lane k ≡ getD ws (lane * f .words + k) 0
-    unfolding wordAt laneNumber
-    unpacked-word lane k hl hk = ap (field 32 k) (unpacked-number lane hl) ∙ field-joined 32 (f .words) (λ k. getD ws (lane * f .words + k) 0) (word-fits lane hl) k hk
+    unfolding laneNumber
+    unpacked-word lane k hl hk =
+        word-number (unpacked f ws) (unpacked-fits ws) (unpacked-length ws) lane k hl hk
+        ∙ ap (field 32 k) (unpacked-number lane hl)
+        ∙ field-joined 32 (f .words) (λ k. getD ws (lane * f .words + k) 0) (word-fits lane hl) k hk
 
     pub unpack-pack : packed f (unpacked f ws) ≡ ws
     unfolding packed

@@ -9,15 +9,18 @@ use native.Mathlib.Omega.{arith}
 use borrow.Author.Tests.{lt-ltb, le-ltb, eq-eqb, ne-eqb}
 use lib.Arith.{digits-lt}
 use lib.Dec.{T, ltb, ltb→lt, nltb→le}
+use Rattle.laws.proofs.Lists.{block-le}
 use Rattle.laws.specs.Toward.{Below}
 use Rattle.laws.proofs.Toward.{same-or-not}
 use Rattle.kinds.specs.Kinds.{lanes}
+use Rattle.kinds.specs.Places.{wordWithin}
 use Rattle.kinds.specs.Rule.{elementsOf, rowsOf, columnsOf, major, minor, holderOf}
 use Rattle.kinds.specs.Workers.{Laid}
 use Rattle.kinds.specs.declared.Layout.{Layout}
+use Rattle.kinds.proofs.Spots.{word-of}
 use Rattle.buffers.specs.Buffers.{index}
 use Rattle.buffers.specs.Stretches.{sizeOf, abreastIn, stretchesOf, holdingOf, placeAt, OfQuad, WordsOfQuad, stepOf}
-use Rattle.buffers.proofs.Places.{side-index, columns-pos, halves-per, wide-is, stretch-words}
+use Rattle.buffers.proofs.Places.{side-index, columns-pos, halves-per, wide-is, stretch-fills, stretch-words}
 use Rattle.buffers.proofs.Round.{place-back, lane-in, element-in}
 
 module _ (f : Layout) where
@@ -73,7 +76,7 @@ module _ (f : Layout) (ok : Laid f) where
   abreast-few =
       ⊎-elim (λ h. rw (narrow-abreast f h) (omega arith, omega arith)) (λ h. rw (wide-abreast f h) (ok .side-pos, ok .wide-side h)) (narrow-or-wide f)
 
-  size-pos : 0 < sizeOf f
+  pub size-pos : 0 < sizeOf f
   size-pos = ⊎-elim (λ h. rw (narrow-size f h) (ok .side-pos)) (λ h. rw (wide-size f h) (omega arith)) (narrow-or-wide f)
 
   pub stretches-few : stretchesOf f ≤ 8
@@ -115,7 +118,7 @@ module _ (f : Layout) (ok : Laid f) where
         (lane / 4, omega arith, (lane % 4, omega arith, (i % n, mod-lt i size-pos, e ∙ ap₂ (placeAt f) (sym (lane-split lane)) (sym (div-add-mod' i n))))),
       )
 
-  holding-pos : 0 < holdingOf f
+  pub holding-pos : 0 < holdingOf f
   holding-pos = ⊎-elim (λ e. rw (two-words f e) (omega arith)) (λ ne. rw (one-word f ne) (omega arith)) (same-or-not (f .bits) 64)
 
   -- every word is in one
@@ -144,6 +147,23 @@ module _ (f : Layout) (ok : Laid f) where
 
   pub narrow-word : (r : ℕ) → f .bits < 32 → r < stretchesOf f → r < f .words
   narrow-word r h hr = omega (arith, stretch-words f ok h, ap (λ (n : ℕ). f .spans * f .halves * n) (narrow-abreast f h))
+
+  -- it starts in the first word of those that hold it
+  pub starts : (r : ℕ) → wordWithin (f .bits) (r * sizeOf f) ≡ r * holdingOf f
+  unfolding wordWithin
+  starts r =
+      ⊎-elim
+      (λ h. rw (narrow-size f h, one-word f (λ e. omega arith))
+      (ap (wordWithin (f .bits)) (sym (add-zero (r * f .side))) ∙ word-of (f .bits) (f .side) (stretch-fills f ok h) r 0 (ok .side-pos) ∙ sym (mul-one r)))
+      (λ h. rw (wide-size f h) (wide h))
+      (narrow-or-wide f)
+    where
+      wide : 32 ≤ f .bits → wordWithin (f .bits) (r * 1) ≡ r * holdingOf f
+      wide h =
+          ⊎-elim (λ e. rw (two-words f e, e) (omega arith)) (λ ne. rw (one-word f ne, wide-is f ok h ne .0) (omega arith)) (same-or-not (f .bits) 64)
+
+  pub start-within : (r : ℕ) → r < stretchesOf f → wordWithin (f .bits) (r * sizeOf f) + holdingOf f ≤ f .words
+  start-within r hr = rw (starts r) (subst (λ (n : ℕ). r * holdingOf f + holdingOf f ≤ n) stretches-words (block-le r (stretchesOf f) (holdingOf f) hr))
 
   -- its places are steps from the first
   pub narrow-at : (lane r base : ℕ) → base ≡ placeAt f lane (r * f .side) → (j : ℕ) → j < f .side → base + j * stepOf (f .turned) (columnsOf f) ≡ placeAt f lane (r * f .side + j)

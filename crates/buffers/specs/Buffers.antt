@@ -1,20 +1,25 @@
--- Document 01, 'Kinds': what stands in a warp buffer and in a matrix buffer. Assumes nothing.
+-- Document 01, 'Kinds', and document 02, K9: what stands in a warp buffer and in a matrix buffer. Assumes nothing.
 use Prim.Native.Nat.{ℕ, _+_, _*_, _^_, _<_}
 use mathlib.Core.List.{List}
 use lib.ListN.{length, getD}
-use Rattle.laws.specs.Fields.{field, joined}
+use Rattle.laws.specs.Choice.{if_then_else_, _=?_}
+use Rattle.laws.specs.Fields.{bitsFrom, joined}
 use Rattle.laws.specs.Lists.{tab, blocks}
 use Rattle.kinds.specs.Kinds.{lanes, wordBits, entryOf, roleOf, columns, bits, words, bitsAt, columnsAt, rowsAt, wordsAt}
-use Rattle.kinds.specs.Rule.{layoutOf, elementsOf, rowsOf, columnsOf, placeIn, holderOf}
+use Rattle.kinds.specs.Places.{wordWithin, lowestBit, whoseBit}
+use Rattle.kinds.specs.Rule.{layoutOf, rowsOf, columnsOf, placeIn, holderOf}
 use Rattle.kinds.specs.declared.Layout.{Layout}
 
--- A warp buffer holds lane 0's words, then lane 1's, and so on: a lane's words make one number, the first word lowest.
-unfoldable pub laneNumber : (words : ℕ) → List ℕ → (lane : ℕ) → ℕ
-laneNumber words ws lane = joined wordBits words (λ k. getD ws (lane * words + k) 0)
+-- A warp buffer holds lane 0's words, then lane 1's, and so on. What an element stands in: a word, or of 64 bits two, low half first.
+abbrev pub wordsFrom : (bits : ℕ) → List ℕ → (n : ℕ) → ℕ
+wordsFrom bits ws n = if bits =? 64 then getD ws (n + 1) 0 * 2 ^ wordBits + getD ws n 0 else getD ws n 0
 
--- Elements fill a word from its low bits up, then the next word. A 64-bit element takes two words, low half first.
+-- K9: the bits from a bit of a word of a lane up, and an element, which is those from its lowest bit of its word up
+unfoldable pub heldAt : (bits words : ℕ) → List ℕ → (lane word bit : ℕ) → ℕ
+heldAt bits words ws lane word bit = bitsFrom bits bit (wordsFrom bits ws (lane * words + word))
+
 unfoldable pub elementAt : (bits words : ℕ) → List ℕ → (lane i : ℕ) → ℕ
-elementAt bits words ws lane i = field bits i (laneNumber words ws lane)
+elementAt bits words ws lane i = heldAt bits words ws lane (wordWithin bits i) (lowestBit bits i)
 
 -- A matrix buffer is row-major, one number an element, holding its bit pattern.
 abbrev pub index : (columns : ℕ) → ℕ × ℕ → ℕ
@@ -31,14 +36,19 @@ entryAt f ws row column = elementAt (f .bits) (f .words) ws (holderOf f (row, co
 unfoldable pub unpacked : Layout → List ℕ → List ℕ
 unpacked f ws = tab (rowsOf f * columnsOf f) (blocks (columnsOf f) (entryAt f ws))
 
--- Packing: each element of a lane is the entry at its place; the lane's words are the words of that number.
+-- Packing: each bit of a word is a bit of one element, whose pattern is the entry at its place.
 unfoldable pub wordAt : Layout → List ℕ → (lane k : ℕ) → ℕ
-wordAt f m lane k = field wordBits k (joined (f .bits) (elementsOf f) (λ i. getD m (index (columnsOf f) (placeIn f lane i)) 0))
+wordAt f m lane k =
+    joined 1 wordBits
+    (λ b. bitsFrom 1 (whoseBit (f .bits) k b .1) (getD m (index (columnsOf f) (placeIn f lane (whoseBit (f .bits) k b .0))) 0))
 
 unfoldable pub packed : Layout → List ℕ → List ℕ
 packed f m = tab (lanes * f .words) (blocks (f .words) (wordAt f m))
 
 -- the same of a kind and a role
+abbrev pub heldIn : (kind role : ℕ) → List ℕ → (lane word bit : ℕ) → ℕ
+heldIn k r ws lane word bit = heldAt (bitsAt k r) (wordsAt k r) ws lane word bit
+
 abbrev pub elementIn : (kind role : ℕ) → List ℕ → (lane i : ℕ) → ℕ
 elementIn k r ws lane i = elementAt (bitsAt k r) (wordsAt k r) ws lane i
 

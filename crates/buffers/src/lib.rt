@@ -4,14 +4,17 @@ ghost use Prim.Native.Nat.{_+_, _*_, _<_, _≤_};
 ghost use lib.ListN.{length};
 ghost use Rattle.laws.specs.Fields.{field};
 ghost use Rattle.kinds.specs.Kinds.{lanes, entryOf};
+ghost use Rattle.kinds.specs.Places.{wordWithin};
 ghost use Rattle.kinds.specs.Rule.{rowsOf, columnsOf};
 ghost use Rattle.kinds.specs.Workers.{Laid};
 ghost use Rattle.buffers.specs.Buffers.{wordsNeeded};
-ghost use Rattle.buffers.specs.Stretches.{sizeOf, abreastIn, stretchesOf, placeAt, stepOf};
+ghost use Rattle.buffers.specs.Stretches.{sizeOf, abreastIn, stretchesOf, holdingOf, placeAt, stepOf};
+use kinds::Element;
 use kinds::Entry;
 use kinds::Kind;
 use kinds::Lane;
 use kinds::Layout;
+use kinds::Spot;
 
 // A quad of a warp, and a stretch of a lane: the elements that one word holds, or one element that takes a word or two.
 pub struct Quad(pub usize);
@@ -64,12 +67,13 @@ pub fn copy(from: &[u32], to: &mut [u32])
     }
 }
 
-// Field j of a word.
+// Field j of a word, from its lowest bit up.
 pub fn field_of(word: u64, bits: usize, j: usize) -> u64
-    requires { ⌜ (bits < 64) × (bits * j < 64) ⌝ }
+    requires { ⌜ (bits < 32) × (bits + bits * j ≤ 32) × (j < 32) ⌝ }
     ensures { λ r. ⌜ r ≡ field bits j word ⌝ }
 {
-    (word >> (bits * j)) % (1 << bits)
+    let bit = Spot::of(bits, Element(j as u32)).bit;
+    (word >> bit.0) % (1 << bits)
 }
 
 // The rows and the columns of a layout's matrix.
@@ -125,6 +129,29 @@ pub fn stretches_in(f: Layout) -> usize
     ensures { λ r. ⌜ r ≡ stretchesOf f ⌝ }
 {
     f.spans * f.halves * abreast(f)
+}
+
+// The elements of a stretch.
+fn size_of(f: Layout) -> usize
+    requires { ⌜ Laid f ⌝ }
+    ensures is { λ r. ⌜ r ≡ sizeOf f ⌝ }
+    ensures few { λ r. ⌜ r ≤ 32 ⌝ }
+{
+    if f.bits < 32 {
+        return f.side;
+    }
+    1
+}
+
+// The word of its lane in which a stretch starts.
+pub fn word_of(f: Layout, stretch: Stretch) -> usize
+    requires { ⌜ Laid f × (stretch .0 < stretchesOf f) ⌝ }
+    ensures is { λ r. ⌜ r ≡ wordWithin (f .bits) (stretch .0 * sizeOf f) ⌝ }
+    ensures within { λ r. ⌜ r + holdingOf f ≤ f .words ⌝ }
+{
+    let first = stretch.0 * size_of(f);
+    let word = Spot::of(f.bits, Element(first as u32)).word;
+    word.0 as usize
 }
 
 // The index of the first place of a stretch.

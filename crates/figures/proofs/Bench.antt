@@ -3,7 +3,7 @@
 use mathlib.Core.Path.{refl}
 use mathlib.Core.List.{List, [], _∷_}
 use Rattle.laws.specs.Bits.{combine, onesIn}
-use Rattle.laws.specs.Fields.{field, joined}
+use Rattle.laws.specs.Fields.{field}
 use Rattle.laws.specs.Integers.{value, sumZ, int32, word32, clamp}
 use Rattle.laws.specs.Lists.{tab}
 use Rattle.kinds.specs.Places.{placeOf}
@@ -38,7 +38,7 @@ abbrev _and_ : {X Y : Type 0} → X → Y → X × Y
 _and_ x y = (x, y)
 
 tests : Tests starred
-unfolding placeAnswer findAnswer placeOf laneOf elementOf stepAnswer addedAll cellOf field joined tab combine onesIn value sumZ int32 word32 clamp
+unfolding placeAnswer findAnswer placeOf laneOf elementOf stepAnswer addedAll cellOf field tab combine onesIn value sumZ int32 word32 clamp
 tests =
     refl
     and refl

@@ -6,8 +6,9 @@ use lib.IntN.{ℤ, pos, negsuc}
 use lib.ListN.{length}
 use Rattle.laws.specs.Integers.{int32}
 use Rattle.laws.specs.Lists.{tab}
-use Rattle.kinds.specs.Kinds.{columnsAt, rowsAt}
+use Rattle.kinds.specs.Kinds.{bitsAt, columnsAt, rowsAt}
 use Rattle.answers.specs.Refusals.{given}
+use Rattle.kinds.specs.Places.{withWordAndBit}
 use Rattle.places.specs.PlaceCalls.{placeAnswer, findAnswer}
 use Rattle.buffers.specs.Buffers.{wordsNeeded}
 use Rattle.step_work.specs.Step.{entryIn, stepped}
@@ -37,7 +38,7 @@ Steps kind signs mode a b c z = Accepted kind signs mode a b c × Everywhere kin
 
 -- what the figure says
 abbrev pub Right : Figure → Type 0
-Right (place kind role lane i row column) = placeAnswer kind role lane i ≡ given (row, column)
+Right (place kind role lane i row column) = placeAnswer kind role lane i ≡ given (withWordAndBit (bitsAt kind role) i (row, column))
 Right (find kind role row column lane i) = findAnswer kind role row column ≡ given (lane, i)
 Right (step kind signs mode a b c z) = Steps kind signs mode (uniform kind 0 a) (uniform kind 1 b) (uniform kind 2 c) z
 

@@ -1,4 +1,5 @@
 pub mod Digits
+pub mod Spots
 pub mod Table
 pub mod Whole
 pub mod Judged

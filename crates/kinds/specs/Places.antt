@@ -1,9 +1,9 @@
--- Document 01, 'Where an element sits', and document 02, K5: g is lane divided by 4, t is lane mod 4, i the element number from 0. Each clause is
--- (row, column). Assumes nothing.
+-- Document 01, 'Where an element sits', and document 02, K5 and K9: g is lane divided by 4, t is lane mod 4, i the element number from 0. Each
+-- clause is (row, column). Assumes nothing.
 use Prim.Native.Nat.{ℕ, _+_, _*_, _/_, _%_}
 use mathlib.Core.Bool.{_&&_, _||_}
 use Rattle.laws.specs.Choice.{if_then_else_, _<?_, _≤?_, _=?_}
-use Rattle.kinds.specs.Kinds.{KnownKind, kind1, kind2, kind3, kind4, kind5, kind6, kind7, kind8, kind9, kind10, kind11, kind12, kind13, kind14, KnownRole, roleA, roleB, roleC}
+use Rattle.kinds.specs.Kinds.{KnownKind, kind1, kind2, kind3, kind4, kind5, kind6, kind7, kind8, kind9, kind10, kind11, kind12, kind13, kind14, KnownRole, roleA, roleB, roleC, wordBits}
 
 -- A (row; column)
 abbrev pub placeA : KnownKind → (g t i : ℕ) → ℕ × ℕ
@@ -62,8 +62,30 @@ placeC kind12 = narrowC
 placeC kind13 = wideC
 placeC kind14 = wideC
 
--- the place of element i of a lane
+-- the row and the column of element i of a lane
 unfoldable pub placeOf : KnownKind → KnownRole → (lane i : ℕ) → ℕ × ℕ
 placeOf κ roleA lane i = placeA κ (lane / 4) (lane % 4) i
 placeOf κ roleB lane i = (rowB κ (lane % 4) i, lane / 4)
 placeOf κ roleC lane i = placeC κ (lane / 4) (lane % 4) i
+
+-- K9: the word within the lane and the lowest bit in that word. Elements fill a word from its low bits up, then the next word; so for a
+-- 64-bit element that is the low word, bit 0.
+unfoldable pub wordWithin : (bits i : ℕ) → ℕ
+wordWithin bits i = i * bits / wordBits
+
+unfoldable pub lowestBit : (bits i : ℕ) → ℕ
+lowestBit bits i = i * bits % wordBits
+
+-- the word and the bit in which bit o of an element stands; and back, the element whose bit stands there, and which of its bits it is
+abbrev pub standsAt : (bits i o : ℕ) → ℕ × ℕ
+standsAt bits i o = (wordWithin bits i + (lowestBit bits i + o) / wordBits, (lowestBit bits i + o) % wordBits)
+
+abbrev pub whoseBit : (bits word bit : ℕ) → ℕ × ℕ
+whoseBit bits word bit = ((word * wordBits + bit) / bits, (word * wordBits + bit) % bits)
+
+-- K9: the place of an element is four numbers: row, column, word within the lane, lowest bit in that word.
+abbrev pub Place : Type 0
+Place = ℕ × ℕ × ℕ × ℕ
+
+abbrev pub withWordAndBit : (bits i : ℕ) → (row-column : ℕ × ℕ) → Place
+withWordAndBit bits i x = (x .0, x .1, wordWithin bits i, lowestBit bits i)

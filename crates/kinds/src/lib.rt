@@ -3,6 +3,7 @@ ghost use mathlib.Core.Path.{_≡_};
 ghost use Prim.Native.Nat.{_<_, _≤_};
 ghost use Rattle.answers.specs.Contracts.{Replies};
 ghost use Rattle.kinds.specs.Kinds.{kinds, sumBits, entryOf, roleOf};
+ghost use Rattle.kinds.specs.Places.{wordWithin, lowestBit};
 ghost use Rattle.kinds.specs.Rule.{spread, sideOf, layoutOf};
 ghost use Rattle.kinds.specs.Workers.{toldLayout, layoutCall, layoutsOf, Laid};
 use answers::Refusal;
@@ -21,6 +22,10 @@ pub struct Element(pub u32);
 pub struct Row(pub u32);
 
 pub struct Column(pub u32);
+
+pub struct Word(pub u32);
+
+pub struct Bit(pub u32);
 
 pub struct Signs(pub u32);
 
@@ -46,6 +51,30 @@ impl Lane {
 
     // Lanes of a quad.
     pub const QUAD: usize = 4;
+}
+
+// Where an element stands in its lane: its number, its word and its lowest bit in that word.
+pub struct Spot {
+    pub element: Element,
+    pub word: Word,
+    pub bit: Bit,
+}
+
+impl Spot {
+    // An element that takes two words stands in the low one, from bit 0 up.
+    pub fn of(bits: usize, element: Element) -> Spot
+        requires { ⌜ (bits ≤ 64) × (element .0 ≤ 128) ⌝ }
+        ensures is { λ r. ⌜ (r .element ≡ element) × (r .word .0 ≡ wordWithin bits (element .0)) ×
+            (r .bit .0 ≡ lowestBit bits (element .0)) ⌝ }
+        ensures small { λ r. ⌜ (r .word .0 ≤ 256) × (r .bit .0 < 32) ⌝ }
+    {
+        let first = element.0 * bits as u32;
+        Spot {
+            element,
+            word: Word(first / 32),
+            bit: Bit(first % 32),
+        }
+    }
 }
 
 // A line of the kinds table: m, n, k; bits of an A or B element, and what it is; words per lane of A, of B, of C or D. A look at one line costs

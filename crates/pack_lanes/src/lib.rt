@@ -12,8 +12,10 @@ ghost use Rattle.buffers.specs.Stretches.{stretchesOf, holdingOf, WordsOfQuad};
 ghost use Rattle.pack_lanes.specs.Workers.{Packs};
 use buffers::Quad;
 use buffers::Stretch;
+use kinds::Element;
 use kinds::Lane;
 use kinds::Layout;
+use kinds::Spot;
 
 // The number whose fields are so many entries from base on, step apart.
 fn gather(matrix: &[u64], bits: usize, base: usize, step: usize, count: usize) -> u64
@@ -25,7 +27,8 @@ fn gather(matrix: &[u64], bits: usize, base: usize, step: usize, count: usize) -
     let mut sum: u64 = 0;
     let mut j = 0;
     while j < count {
-        sum = (matrix[base + j * step] << (bits * j)) + sum;
+        let bit = Spot::of(bits, Element(j as u32)).bit;
+        sum = (matrix[base + j * step] << bit.0) + sum;
         j += 1;
     }
     sum
@@ -41,19 +44,17 @@ fn write_lane(matrix: &[u64], part: &mut [u32], f: Layout, stretch: Stretch, lan
         (λ k. wordAt f (now (matrix .entry)) (lane .0) (stretch .0 * holdingOf f + k)) (now (part .entry)) ⌝ }
 {
     let base = buffers::base_of(f, stretch, lane);
-    let r = stretch.0;
+    let k = buffers::word_of(f, stretch);
     if f.bits < 32 {
         let step = buffers::step_of(f);
-        part[r] = gather(matrix, f.bits, base, step, f.side) as u32;
+        part[k] = gather(matrix, f.bits, base, step, f.side) as u32;
         return;
     }
     let element = matrix[base];
+    part[k] = (element % 4294967296) as u32;
     if f.bits == 64 {
-        part[r * 2] = (element % 4294967296) as u32;
-        part[r * 2 + 1] = (element / 4294967296) as u32;
-        return;
+        part[k + 1] = (element / 4294967296) as u32;
     }
-    part[r] = element as u32;
 }
 
 // The same stretch of a quad's lanes, and of every quad's.

@@ -1,9 +1,9 @@
 -- What document 01 and demand 2 promise of places, a sentence above its statement. Assumes nothing.
-use mathlib.Core.Path.{_≡_, refl, sym, ap, _∙_}
+use mathlib.Core.Path.{_≡_, refl, sym, ap, ap₂, _∙_}
 use mathlib.Core.Logic.{_↔_}
 use Prim.Native.Nat.{ℕ, _<_}
-use Rattle.kinds.specs.Kinds.{lanes, kindOf, roleOf, elementsAt, Legal}
-use Rattle.kinds.specs.Places.{placeOf}
+use Rattle.kinds.specs.Kinds.{lanes, kindOf, roleOf, bitsAt, elementsAt, Legal}
+use Rattle.kinds.specs.Places.{placeOf, wordWithin, lowestBit, Place, withWordAndBit}
 use Rattle.kinds.specs.Rule.{placeIn, turn}
 use Rattle.answers.specs.Refusals.{Answer, given, refusal}
 use Rattle.answers.specs.Contracts.{Replies}
@@ -14,28 +14,41 @@ use Rattle.places.specs.declared.Placed.{Placed}
 use Rattle.places.specs.declared.Placed.the-variants.{At, Refused as Placed·Refused}
 use Rattle.places.specs.declared.Held.{Held}
 use Rattle.places.specs.declared.Held.the-variants.{By, Refused as Held·Refused}
-use Rattle.kinds.proofs.Table.{layoutAt, sane}
+use Rattle.kinds.proofs.Table.{layoutAt, bits-are, sane}
 use Rattle.kinds.proofs.Whole.{whole-at}
 use Rattle.laws.proofs.Unique.{one-answer}
-use Rattle.places.proofs.ByRule.{place-legal, find-legal, place-is, find-is, place-find, find-place, turn-turn}
+use Rattle.places.proofs.ByRule.{place-legal, placed-inside, find-legal, place-is, find-is, place-find, find-place, turn-turn}
 
 -- 'For each kind and role this matches lane and element to row and column one to one, and the reverse question is answered too.'
--- For all numbers, legal or not: the place of element i of lane l is (x, y) exactly when the holder of (x, y) is element i of lane l.
-pub one-to-one : (k r l i x y : ℕ) → (placeAnswer k r l i ≡ given (x, y)) ↔ (findAnswer k r x y ≡ given (l, i))
-one-to-one k r l i x y = (there, back)
+-- For all numbers, legal or not: the place of element i of lane l is row x, column y, word w and bit b exactly when the holder of (x, y) is
+-- element i of lane l, and w and b are that element's word and lowest bit.
+pub one-to-one : (k r l i x y w b : ℕ)
+    → (placeAnswer k r l i ≡ given (x, y, w, b))
+    ↔ ((findAnswer k r x y ≡ given (l, i)) × (w ≡ wordWithin (bitsAt k r) i) × (b ≡ lowestBit (bitsAt k r) i))
+one-to-one k r l i x y w b = (there, back)
   where
-    there : placeAnswer k r l i ≡ given (x, y) → findAnswer k r x y ≡ given (l, i)
-    there e =
-        let ok = place-legal k r l i (x, y) e in
-        sym (find-is k r ok x y) ∙ place-find (layoutAt k r) (sane k r ok) l i (x, y) (place-is k r ok l i ∙ e)
+    Found : Type 0
+    Found = (findAnswer k r x y ≡ given (l, i)) × (w ≡ wordWithin (bitsAt k r) i) × (b ≡ lowestBit (bitsAt k r) i)
 
-    back : findAnswer k r x y ≡ given (l, i) → placeAnswer k r l i ≡ given (x, y)
+    there : placeAnswer k r l i ≡ given (x, y, w, b) → Found
+    there e =
+        let ok = place-legal k r l i (x, y, w, b) e in
+        let p = placed-inside k r l i (x, y, w, b) e .2 in
+        let n = bits-are k r ok in (
+          sym (find-is k r ok x y) ∙ place-find (layoutAt k r) (sane k r ok) l i (x, y, w, b) (place-is k r ok l i ∙ e),
+          ap (λ (z : Place). z .2) p ∙ ap (λ (n : ℕ). wordWithin n i) (sym n),
+          ap (λ (z : Place). z .3) p ∙ ap (λ (n : ℕ). lowestBit n i) (sym n),
+        )
+
+    back : Found → placeAnswer k r l i ≡ given (x, y, w, b)
     back e =
-        let ok = find-legal k r x y (l, i) e in
+        let ok = find-legal k r x y (l, i) (e .0) in
         let t = layoutAt k r .turned in
+        let n = bits-are k r ok in
         sym (place-is k r ok l i)
-        ∙ find-place (layoutAt k r) (sane k r ok) (turn t (x, y) .0) (turn t (x, y) .1) (l, i) (find-is k r ok x y ∙ e)
-        ∙ ap given (turn-turn t (x, y))
+        ∙ find-place (layoutAt k r) (sane k r ok) (turn t (x, y) .0) (turn t (x, y) .1) (l, i) (find-is k r ok x y ∙ e .0)
+        ∙ ap (λ (z : ℕ × ℕ). given (withWordAndBit (layoutAt k r .bits) i z)) (turn-turn t (x, y))
+        ∙ rw (← n, ← e .1, ← e .2) refl
 
 -- Document 01's rules, a clause a kind and role, are the one rule at every lane and element.
 pub one-rule : (k r l i : ℕ) → Legal k r → l < lanes → i < elementsAt k r
@@ -43,8 +56,8 @@ pub one-rule : (k r l i : ℕ) → Legal k r → l < lanes → i < elementsAt k 
 one-rule = whole-at
 
 -- 'Show that no second answer satisfies it': two answers of place that meet its contract are equal, and two of the reverse question.
-placedOf : Answer (ℕ × ℕ) → Placed
-placedOf (given x) = At (record { 0 = x .0 }) (record { 0 = x .1 })
+placedOf : Answer Place → Placed
+placedOf (given x) = At (record { 0 = x .0 }) (record { 0 = x .1 }) (record { 0 = x .2 }) (record { 0 = x .3 })
 placedOf (refusal n d) = Placed·Refused (refusalOf n d)
 
 heldOf : Answer (ℕ × ℕ) → Held
@@ -53,7 +66,7 @@ heldOf (refusal n d) = Held·Refused (refusalOf n d)
 
 placed-back : (a : Placed) → placedOf (toldPlace a) ≡ a
 unfolding placedOf
-placed-back (At x y) = refl
+placed-back (At x y w b) = refl
 placed-back (Placed·Refused f) = ap Placed·Refused (refusal-back f)
 
 held-back : (a : Held) → heldOf (toldHolder a) ≡ a

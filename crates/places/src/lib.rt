@@ -1,9 +1,14 @@
 // The place of an element, and the reverse question.
+ghost use mathlib.Core.Path.{_≡_};
+ghost use Prim.Native.Nat.{_<_};
 ghost use Rattle.answers.specs.Contracts.{Replies};
+ghost use Rattle.kinds.specs.Places.{wordWithin, lowestBit};
+ghost use Rattle.kinds.specs.Rule.{majors, minors, elementOf};
 ghost use Rattle.kinds.specs.Workers.{Laid};
 ghost use Rattle.places.specs.PlaceCalls.{toldPlace, toldHolder, placeCall, findCall};
 ghost use Rattle.places.specs.Workers.{placeCallIn, findCallIn};
 use answers::Refusal;
+use kinds::Bit;
 use kinds::Column;
 use kinds::Element;
 use kinds::Kind;
@@ -12,9 +17,11 @@ use kinds::Lane;
 use kinds::Layout;
 use kinds::Role;
 use kinds::Row;
+use kinds::Spot;
+use kinds::Word;
 
 pub enum Placed {
-    At(Row, Column),
+    At(Row, Column, Word, Bit),
     Refused(Refusal),
 }
 
@@ -37,13 +44,16 @@ fn place_in(f: Layout, lane: Lane, element: Element) -> Placed
     }
     let x = kinds::rule::across(f.side, f.halves, lane, element) as u32;
     let y = kinds::rule::along(f.side, f.halves, lane, element) as u32;
+    let spot = Spot::of(f.bits, element);
+    let word = spot.word;
+    let bit = spot.bit;
     if f.turned {
-        return Placed::At(Row(y), Column(x));
+        return Placed::At(Row(y), Column(x), word, bit);
     }
-    Placed::At(Row(x), Column(y))
+    Placed::At(Row(x), Column(y), word, bit)
 }
 
-// The place of an element: its row and column.
+// The place of an element: its row and column, its word within the lane and its lowest bit in that word.
 pub fn place(kind: Kind, role: Role, lane: Lane, element: Element) -> Placed
     ensures { λ r. ⌜ Replies (placeCall (kind .0) (role .0) (lane .0) (element .0)) (toldPlace r) ⌝ }
 {
@@ -51,6 +61,16 @@ pub fn place(kind: Kind, role: Role, lane: Lane, element: Element) -> Placed
         Known::As(f) => place_in(f, lane, element),
         Known::Refused(x) => Placed::Refused(x),
     }
+}
+
+// The spot of its lane in which the entry at a major number x and a minor number y stands.
+fn spot_at(f: Layout, x: usize, y: usize) -> Spot
+    requires { ⌜ Laid f × (x < majors f) × (y < minors f) ⌝ }
+    ensures { λ r. ⌜ (r .element .0 ≡ elementOf (f .side) (f .halves) x y) × (r .word .0 ≡ wordWithin (f .bits)
+        (r .element .0)) × (r .bit .0 ≡ lowestBit (f .bits) (r .element .0)) ⌝ }
+{
+    let i = kinds::rule::element_at(f.side, f.halves, x, y) as u32;
+    Spot::of(f.bits, Element(i))
 }
 
 fn find_in(f: Layout, x: u32, y: u32) -> Held
@@ -66,8 +86,8 @@ fn find_in(f: Layout, x: u32, y: u32) -> Held
         return Held::Refused(Refusal::Outside);
     }
     let l = kinds::rule::lane_at(f.side, major, minor) as u32;
-    let i = kinds::rule::element_at(f.side, f.halves, major, minor) as u32;
-    Held::By(Lane(l), Element(i))
+    let element = spot_at(f, major, minor).element;
+    Held::By(Lane(l), element)
 }
 
 // The reverse question: the lane and the element whose place is at a row and a column.

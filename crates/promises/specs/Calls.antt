@@ -3,6 +3,7 @@ use Prim.Native.Nat.{ℕ}
 use mathlib.Core.List.{List}
 use lib.IntN.{ℤ}
 use Rattle.answers.specs.Calls.{Call}
+use Rattle.kinds.specs.Places.{Place}
 use Rattle.places.specs.PlaceCalls.{placeCall, findCall}
 use Rattle.unpack.specs.UnpackCall.{unpackCall}
 use Rattle.pack.specs.PackCall.{packCall}
@@ -12,9 +13,9 @@ use Rattle.run.specs.declared.Run.{Run}
 use Rattle.run.specs.RunCalls.{openCall, feedCall, readCall}
 use Rattle.scale.specs.ScaleCall.{scaleCall}
 
--- a call with what it leaves or gives back: a row and a column, a lane and an element, a buffer, a run, or a buffer and the run
+-- a call with what it leaves or gives back: a place, a lane and an element, a buffer, a run, or a buffer and the run
 pub data OfBench : (X : Type 0) → Call X → Type 1 where
-  place : (kind role lane i : ℕ) → OfBench (ℕ × ℕ) (placeCall kind role lane i)
+  place : (kind role lane i : ℕ) → OfBench Place (placeCall kind role lane i)
   find : (kind role row column : ℕ) → OfBench (ℕ × ℕ) (findCall kind role row column)
   unpack : (kind role : ℕ) (words matrix : List ℕ) → OfBench (List ℕ) (unpackCall kind role words matrix)
   pack : (kind role : ℕ) (matrix words : List ℕ) → OfBench (List ℕ) (packCall kind role matrix words)

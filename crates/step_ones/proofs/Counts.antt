@@ -11,7 +11,7 @@ use lib.ListN.{length, getD, take, length-append}
 use lib.Seq.{take-at}
 use Rattle.laws.specs.Bits.{combine, onesIn, sumN}
 use Rattle.laws.specs.Fields.{field, joined}
-use Rattle.laws.specs.Lists.{tab, blocks}
+use Rattle.laws.specs.Lists.{blocks}
 use Rattle.laws.proofs.Bits.{sum-cong, sum-split, ones-tab, ones-le, combine-lt}
 use Rattle.laws.proofs.Differences.{is-pos}
 use Rattle.laws.proofs.Fields.{field-field, field-joined}
@@ -20,7 +20,7 @@ use Rattle.kinds.specs.Kinds.{lanes}
 use Rattle.kinds.specs.Rule.{laneOf, elementOf, major, minor}
 use Rattle.kinds.proofs.Digits.{lane-lt, element-lt, major-lt, minor-lt}
 use Rattle.buffers.specs.Buffers.{elementAt}
-use Rattle.buffers.proofs.Elements.{element-narrow}
+use Rattle.buffers.proofs.Elements.{element-field}
 use Rattle.step_limit.specs.Limits.{cellOf}
 use Rattle.step_ones.specs.Combined.{wordAt, linesOf, bitIn, bitOf, bitsOf, onesWord, onesWords, pairAt, Paired, placeAt, downBits, Summed, sumsWords}
 
@@ -76,36 +76,32 @@ module _ (spans halves x q : ℕ) (h0 : 0 < halves) (hx : x < halves * 8) (hq : 
   pub word-in : wordAt spans halves x q < lanes * (spans * halves)
   word-in = digits-lt (lane-lt 1 halves (omega arith) h0 x q) in-lane
 
-  -- it holds the bits from 32 q on
-  module _ (ws : List ℕ) (fit : (k : ℕ) → getD ws k 0 < 2 ^ 32) (j : ℕ) (l : j < 32) where
-    lane-is : laneOf 32 x (32 * q + j) ≡ laneOf 1 x q
-    unfolding laneOf
-    lane-is = let high : (32 * q + j) / 32 ≡ q = omega arith in rw high (omega arith)
+-- it holds the bits from 32 q on
+module _ (spans halves x q : ℕ) (ws : List ℕ) (j : ℕ) (l : j < 32) where
+  lane-is : laneOf 32 x (32 * q + j) ≡ laneOf 1 x q
+  unfolding laneOf
+  lane-is = let high : (32 * q + j) / 32 ≡ q = omega arith in rw high (omega arith)
 
-    element-is : elementOf 32 halves x (32 * q + j) ≡ elementOf 1 halves x q * 32 + j
-    unfolding elementOf
-    element-is =
-        let high : (32 * q + j) / 32 ≡ q = omega arith in
-        let low : (32 * q + j) % 32 ≡ j = omega arith in
-        let same : q / 1 ≡ q = omega arith in
-        rw (high, low, same) (omega arith)
+  element-is : elementOf 32 halves x (32 * q + j) ≡ elementOf 1 halves x q * 32 + j
+  unfolding elementOf
+  element-is =
+      let high : (32 * q + j) / 32 ≡ q = omega arith in
+      let low : (32 * q + j) % 32 ≡ j = omega arith in
+      let same : q / 1 ≡ q = omega arith in
+      rw (high, low, same) (omega arith)
 
-    bit-is : getD ws (wordAt spans halves x q) 0 / 2 ^ j % 2 ≡ elementAt 1 (spans * halves) ws (laneOf 32 x (32 * q + j)) (elementOf 32 halves x (32 * q + j))
-    unfolding field
-    bit-is =
-        let each = spans * halves in
-        let g = elementOf 1 halves x q in
-        let lane = laneOf 1 x q in
-        let word : (g * 32 + j) / 32 ≡ g = digits-div g l in
-        rw (lane-is, element-is)
-        (sym (element-narrow each ws lane (λ k _. fit (lane * each + k)) 1 32 (g * 32 + j) (omega arith) (omega arith) (rw word in-lane)
-        ∙ ap₂ (λ (n i : ℕ). getD ws (lane * each + n) 0 / 2 ^ i % 2) word (one-mul ((g * 32 + j) % 32) ∙ digits-mod g l)))
+  bit-is : getD ws (wordAt spans halves x q) 0 / 2 ^ j % 2 ≡ elementAt 1 (spans * halves) ws (laneOf 32 x (32 * q + j)) (elementOf 32 halves x (32 * q + j))
+  unfolding field
+  bit-is =
+      rw (lane-is, element-is)
+      (sym (element-field (spans * halves) ws (laneOf 1 x q) 1 32 (elementOf 1 halves x q) j (omega arith) l
+      ∙ ap (λ (i : ℕ). getD ws (wordAt spans halves x q) 0 / 2 ^ i % 2) (one-mul j)))
 
 -- bit k of a line is the element whose place it is
-pub line-bit : (spans halves : ℕ) (ws : List ℕ) → ((k : ℕ) → getD ws k 0 < 2 ^ 32) → 0 < halves → (x k : ℕ) → x < halves * 8 → k < 32 * (spans * 4)
+pub line-bit : (spans halves : ℕ) (ws : List ℕ) (x k : ℕ) → x < halves * 8 → k < 32 * (spans * 4)
     → bitIn (linesOf spans halves ws) (x * (spans * 4)) k ≡ elementAt 1 (spans * halves) ws (laneOf 32 x k) (elementOf 32 halves x k)
 unfolding linesOf
-line-bit spans halves ws fit h0 x k hx hk =
+line-bit spans halves ws x k hx hk =
     let n = spans * 4 in
     let q = k / 32 in
     let hq : q < n = omega arith in
@@ -113,16 +109,15 @@ line-bit spans halves ws fit h0 x k hx hk =
     let word : ℕ → ℕ → ℕ = λ x q. getD ws (wordAt spans halves x q) 0 in
     ap (λ (w : ℕ). w / 2 ^ (k % 32) % 2)
     (getD-tab (halves * 8 * n) (blocks n word) (x * n + q) 0 (digits-lt hx hq) ∙ ap₂ word (digits-div x hq) (digits-mod x hq))
-    ∙ bit-is spans halves x q h0 hx hq ws fit (k % 32) (omega arith)
+    ∙ bit-is spans halves x q ws (k % 32) (omega arith)
     ∙ ap (λ (k : ℕ). elementAt 1 (spans * halves) ws (laneOf 32 x k) (elementOf 32 halves x k)) whole
 
 -- and so is bit k of a column
-pub column-bit : (spans : ℕ) (b : List ℕ) → ((k : ℕ) → getD b k 0 < 2 ^ 32) → (column k : ℕ) → column < 8 → k < 32 * (spans * 4)
-    → bitOf spans b column k ≡ elementAt 1 spans b (laneOf 32 column k) (elementOf 32 1 column k)
-column-bit spans b fit column k hc hk =
+pub column-bit : (spans : ℕ) (b : List ℕ) (column k : ℕ) → bitOf spans b column k ≡ elementAt 1 spans b (laneOf 32 column k) (elementOf 32 1 column k)
+column-bit spans b column k =
     let whole : 32 * (k / 32) + k % 32 ≡ k = omega arith in
     let each : spans * 1 ≡ spans = omega arith in
-    bit-is spans 1 column (k / 32) (omega arith) (omega arith) (omega arith) b fit (k % 32) (omega arith)
+    bit-is spans 1 column (k / 32) b (k % 32) (omega arith)
     ∙ ap₂ (λ (w k : ℕ). elementAt 1 w b (laneOf 32 column k) (elementOf 32 1 column k)) each whole
 
 -- the ones of a row and a column are few

@@ -24,11 +24,10 @@ use Rattle.kinds.specs.declared.Layout.{Layout}
 use Rattle.kinds.proofs.Digits.{lane-back, element-back, major-lt, minor-lt}
 use Rattle.buffers.specs.Buffers.{elementAt, index}
 use Rattle.buffers.specs.Stretches.{sizeOf, stretchesOf, placeAt, OfLane, OfQuad, stepOf}
-use Rattle.buffers.proofs.Elements.{element-field}
+use Rattle.buffers.proofs.Elements.{element-field, element-lt}
 use Rattle.buffers.proofs.Places.{place-in, stretch-fills}
-use Rattle.buffers.proofs.Stretches.{narrow-size, narrow-word, stretch-element, narrow-at, place-covered}
+use Rattle.buffers.proofs.Stretches.{narrow-size, stretch-element, narrow-at, place-covered}
 use Rattle.step_products.specs.Sums.{xorIn, masked, digitAt, Digits, Digitised}
-use Rattle.step_products.proofs.OffsetDots.{element-lt}
 use Rattle.step_products.proofs.Signs.{field-xor, xor-digit, doubled}
 
 -- an offset is a field's number
@@ -105,9 +104,9 @@ module _ (f : Layout) (mask : ℕ) (ws out : List ℕ) (ok : Digitised f ws out)
   pub digits-end : base + f .side ≤ 1024
   digits-end = omega (arith, ok .laid .side-pos, digit-in (f .side - 1) (omega (arith, ok .laid .side-pos)))
 
-  pub digits-stored : (w : ℕ) (ys : List ℕ) → w ≡ bitXor (getD ws (lane * f .words + r) 0) mask → ((k : ℕ) → getD ws k 0 < 2 ^ 32) → ys ≡ stores base 1 (f .side) (λ j. field (f .bits) j w) out
+  pub digits-stored : (w : ℕ) (ys : List ℕ) → w ≡ bitXor (getD ws (lane * f .words + r) 0) mask → ys ≡ stores base 1 (f .side) (λ j. field (f .bits) j w) out
       → Brings (masked f mask ws) (OfLane f (f .side) r lane) out ys
-  digits-stored w ys ew fit es =
+  digits-stored w ys ew es =
       subst (Brings (masked f mask ws) (OfLane f (f .side) r lane) out) (sym es)
       (brings-on (masked f mask ws) (Below (f .side) (λ j. At (base + j * 1))) (OfLane f (f .side) r lane) out (stores base 1 (f .side) (λ j. field (f .bits) j w) out)
       (λ x p. (p .0, p .1, p .2 ∙ sym (at (p .0) (p .1))))
@@ -118,7 +117,7 @@ module _ (f : Layout) (mask : ℕ) (ws out : List ℕ) (ok : Digitised f ws out)
           ap (field (f .bits) j) ew
           ∙ field-xor (f .bits) j (getD ws (lane * f .words + r) 0) mask
           ∙ ap₂ (λ (v k : ℕ). bitXor v (field (f .bits) k mask))
-          (sym (element-field (f .words) ws lane (λ k _. fit (lane * f .words + k)) (f .bits) (f .side) r j (stretch-fills f (ok .laid) narrow) hj (narrow-word f (ok .laid) r narrow hr)))
+          (sym (element-field (f .words) ws lane (f .bits) (f .side) r j (stretch-fills f (ok .laid) narrow) hj))
           (sym (digits-mod r hj))
           ∙ sym (masked-at f mask ws (ok .laid) (ok .straight) lane (r * f .side + j) hl (element-in j hj))
           ∙ ap (λ (x : ℕ). getD (masked f mask ws) x 0) (sym (at j hj))

@@ -2,8 +2,7 @@
 -- so the document's sum is the sum over digits. Assumes nothing.
 use mathlib.Core.Path.{_≡_, sym, ap, ap₂, _∙_}
 use mathlib.Core.Bool.{Bool, true, false, not}
-use mathlib.Core.List.{List}
-use Prim.Native.Nat.{ℕ, zero, suc, _+_, _*_, _-_, _%_, _^_, _<_, _≤_}
+use Prim.Native.Nat.{ℕ, zero, suc, _+_, _*_, _-_, _%_, _<_, _≤_}
 use native.Mathlib.Nat.{mul-add, add-mul, mul-le-mul, mod-eq-of-lt, add-mod-right}
 use native.Mathlib.Omega.{arith}
 use lib.Dec.{T, ltb, ltb→lt, nltb→le}
@@ -12,19 +11,12 @@ use Rattle.laws.specs.Bits.{sumN}
 use Rattle.laws.specs.Choice.{if_then_else_}
 use Rattle.laws.specs.Integers.{value, sumZ}
 use Rattle.laws.proofs.Differences.{is-pos, sub-add, sub-mul, sub-eq}
-use Rattle.laws.proofs.Fields.{field-lt}
 use Rattle.laws.proofs.Integers.{sumZ-cong}
-use Rattle.buffers.specs.Buffers.{laneNumber, elementAt}
 use Rattle.step_products.specs.Sums.{offsetOf, raised, offsetDot}
 
 -- a product of small numbers is small
 pub product-le : (u v m n : ℕ) → u ≤ m → v ≤ n → u * v ≤ m * n
 product-le u v m n h k = mul-le-mul h k
-
--- a pattern has its bits
-pub element-lt : (bits each : ℕ) (ws : List ℕ) (lane i : ℕ) → elementAt bits each ws lane i < 2 ^ bits
-unfolding elementAt
-element-lt bits each ws lane i = field-lt bits i (laneNumber each ws lane)
 
 -- one product more, on either side of the difference
 more-plus : (s n p q : ℕ) → s + n * p + (q + p) ≡ s + q + suc n * p

@@ -2,7 +2,7 @@
 // (the sum of the digits' products + n ha hb) - (ha times the sum of B's digits + hb times the sum of A's): two naturals.
 ghost use mathlib.Core.Path.{_≡_};
 ghost use mathlib.Core.Logic.{_⊎_};
-ghost use Prim.Native.Nat.{ℕ, _+_, _*_, _-_, _^_, _<_, _≤_};
+ghost use Prim.Native.Nat.{_+_, _*_, _-_, _^_, _<_, _≤_};
 ghost use lib.ListN.{length, getD};
 ghost use Rattle.laws.specs.Fields.{field, joined};
 ghost use Rattle.laws.specs.Toward.{stores, Brings, Below, At};

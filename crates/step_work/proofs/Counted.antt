@@ -71,20 +71,20 @@ module _ (k : ℕ) (ok : Arithmetic k) (bit : Says (oneBit k)) where
   unfolding resultAt added
   result-is mode a b c row column = simp (says (oneBit k) .1 bit)
 
-  module _ (mode : ℕ) (a b c : List ℕ) (fit-a : (x : ℕ) → getD a x 0 < 2 ^ 32) (fit-b : (x : ℕ) → getD b x 0 < 2 ^ 32) (fit-c : (x : ℕ) → getD c x 0 < 2 ^ 32) where
+  module _ (mode : ℕ) (a b c : List ℕ) (fit : (x : ℕ) → getD c x 0 < 2 ^ 32) where
     -- A's words row by row
     abbrev x : List ℕ
     x = linesOf spans halves a
 
     bit-A : (row j : ℕ) → row < halves * 8 → j < depth k → bitIn x (row * (spans * 4)) j ≡ entryIn k 0 a row j
     bit-A row j hr h =
-        line-bit spans halves a fit-a (halves-pos k ok) row j hr (omega (arith, h, deep))
+        line-bit spans halves a row j hr (omega (arith, h, deep))
         ∙ sym (entry-A k ok a row j hr h
         ∙ ap₂ (λ (n w : ℕ). elementAt n w a (laneOf (sideOf n) row j) (elementOf (sideOf n) halves row j)) one-bit words-A)
 
     bit-B : (j column : ℕ) → j < depth k → column < 8 → bitOf spans b column j ≡ entryIn k 1 b j column
     bit-B j column h hc =
-        column-bit spans b fit-b column j hc (omega (arith, h, deep))
+        column-bit spans b column j
         ∙ sym (entry-B k ok b j column h hc
         ∙ ap₂ (λ (n h : ℕ). elementAt n spans b (laneOf (sideOf n) column j) (elementOf (sideOf n) h column j)) one-bit (columns-half k ok))
 
@@ -103,7 +103,7 @@ module _ (k : ℕ) (ok : Arithmetic k) (bit : Says (oneBit k)) where
         let row = major-lt 2 halves two (halves-pos k ok) lane i hl in
         let column = minor-lt 2 halves two (halves-pos k ok) 1 lane i (omega (arith, hi, pairs k ok)) in
         ap₂ (λ (w n : ℕ). cellOf 0 w (pos n))
-        (ap (λ (w : ℕ). getD c (lane * w + i) 0) (sym (pairs k ok)) ∙ sym (entry-C k ok lane i hl hi c fit-c))
+        (ap (λ (w : ℕ). getD c (lane * w + i) 0) (sym (pairs k ok)) ∙ sym (entry-C k ok lane i hl hi c fit))
         (ap onesIn (bits-are (major 2 halves lane i) (minor 2 halves lane i) row column))
         ∙ sym (result-is mode a b c (major 2 halves lane i) (minor 2 halves lane i))
 
@@ -146,7 +146,6 @@ module _ (k : ℕ) (ok : Arithmetic k) (bit : Says (oneBit k)) where
           (z .of-c ∙ pair, z .of-d ∙ pair),
         )
 
-    pub counted : (mode : ℕ) (a b c : List ℕ) → ((x : ℕ) → getD a x 0 < 2 ^ 32) → ((x : ℕ) → getD b x 0 < 2 ^ 32) → ((x : ℕ) → getD c x 0 < 2 ^ 32)
-        → onesWords s h mode (linesOf s h a) b c ≡ stepped k 0 mode a b c
-    counted mode a b c fit-a fit-b fit-c =
-        sym (ap₂ (λ (s h : ℕ). onesWords s h mode (linesOf s h a) b c) (known .0) (known .1)) ∙ words-are mode a b c fit-a fit-b fit-c
+    pub counted : (mode : ℕ) (a b c : List ℕ) → ((x : ℕ) → getD c x 0 < 2 ^ 32) → onesWords s h mode (linesOf s h a) b c ≡ stepped k 0 mode a b c
+    counted mode a b c fit =
+        sym (ap₂ (λ (s h : ℕ). onesWords s h mode (linesOf s h a) b c) (known .0) (known .1)) ∙ words-are mode a b c fit

@@ -1,7 +1,7 @@
 -- The entries of A, B and C by the words that hold them, and the words of D by the results at their places. Assumes nothing.
 use mathlib.Core.Path.{_≡_, sym, ap, ap₂, subst, _∙_}
 use mathlib.Core.List.{List}
-use Prim.Native.Nat.{ℕ, _+_, _-_, _*_, _/_, _%_, _^_, _<_, _≤_}
+use Prim.Native.Nat.{ℕ, _+_, _*_, _/_, _%_, _^_, _<_, _≤_}
 use native.Mathlib.Nat.{div-lt-iff-lt-mul, mod-lt}
 use native.Mathlib.Omega.{arith}
 use lib.Arith.{digits-lt, digits-div, digits-mod}
@@ -10,7 +10,7 @@ use lib.ListN.{length, getD}
 use Rattle.laws.specs.Fields.{field, joined}
 use Rattle.laws.specs.Lists.{tab, blocks}
 use Rattle.laws.proofs.Every.{all}
-use Rattle.laws.proofs.Fields.{field-lt, field-joined}
+use Rattle.laws.proofs.Fields.{field-joined}
 use Rattle.laws.proofs.Lists.{length-tab, getD-tab, tab-ext}
 use Rattle.laws.proofs.Integers.{word-lt}
 use Rattle.kinds.specs.Kinds.{lanes, entryOf, roleOf, sumBits, rows, columns, kinds, oneBitElement, int8Element, int4Element, integer, Legal, Arithmetic}
@@ -20,8 +20,9 @@ use Rattle.answers.specs.Tests.{Says}
 use Rattle.kinds.specs.declared.Entry.{Entry}
 use Rattle.kinds.specs.declared.Layout.{Layout}
 use Rattle.kinds.proofs.Table.{among, among-≡, among-≤, layoutAt, sane, rows-are, columns-are}
-use Rattle.buffers.specs.Buffers.{index, laneNumber, elementAt, entryAt, unpackedOf, wordAt, packed}
+use Rattle.buffers.specs.Buffers.{index, elementAt, entryAt, unpackedOf, wordAt, packed}
 use Rattle.buffers.specs.Buffers.{Fitting}
+use Rattle.buffers.proofs.Elements.{element-whole, element-lt}
 use Rattle.buffers.proofs.Places.{place-in}
 use Rattle.buffers.proofs.Round as round
 use Rattle.step_work.specs.Step.{entryIn, depth, resultAt, results, stepped}
@@ -129,12 +130,12 @@ module _ (k : ℕ) (ok : Arithmetic k) where
 
     -- C's entry at the place of a lane's element is the lane's word
     pub entry-C : (ws : List ℕ) → ((x : ℕ) → getD ws x 0 < 2 ^ 32) → entryIn k 2 ws (major 2 (e .m / 8) lane i) (minor 2 (e .m / 8) lane i) ≡ getD ws (lane * e .c + i) 0
-    unfolding entryIn elementAt laneNumber
+    unfolding entryIn
     entry-C ws fit =
         ap (λ (n : ℕ). getD (unpackedOf k 2 ws) n 0) (sym (index-is (placeIn f lane i)))
         ∙ round.unpacked-at f laid ws lane i hl inside
-        ∙ ap (λ (b : ℕ). field b i (joined 32 (e .c) (λ k. getD ws (lane * e .c + k) 0))) sum-bits
-        ∙ field-joined 32 (e .c) (λ k. getD ws (lane * e .c + k) 0) (λ k h. fit (lane * e .c + k)) i hi
+        ∙ ap (λ (b : ℕ). elementAt b (e .c) ws lane i) sum-bits
+        ∙ element-whole (e .c) ws lane (λ k _. fit (lane * e .c + k)) i hi
 
   -- the words of D are the results at their places
   module _ (signs mode : ℕ) (a b c : List ℕ) where
@@ -155,11 +156,20 @@ module _ (k : ℕ) (ok : Arithmetic k) where
         ∙ getD-tab (rowsOf f * columnsOf f) (blocks (columnsOf f) at) (index (columnsOf f) (placeIn f lane i)) 0 (place-in f laid lane i hl hi)
         ∙ ap₂ at (digits-div (placeIn f lane i .0) (round.column-in f laid lane i hl hi)) (digits-mod (placeIn f lane i .0) (round.column-in f laid lane i hl hi))
 
+    results-length : length (results k signs mode a b c) ≡ rowsOf f * columnsOf f
+    results-length = ap length results-are ∙ length-tab (rowsOf f * columnsOf f) (blocks (columnsOf f) at)
+
+    results-fit : Fitting (f .bits) (results k signs mode a b c)
+    results-fit x h =
+        let e : getD (results k signs mode a b c) x 0 ≡ at (x / columnsOf f) (x % columnsOf f)
+        = ap (λ (xs : List ℕ). getD xs x 0) results-are ∙ getD-tab (rowsOf f * columnsOf f) (blocks (columnsOf f) at) x 0 (subst (λ (n : ℕ). x < n) results-length h) in
+        subst (λ (n : ℕ). getD (results k signs mode a b c) x 0 < 2 ^ n) (sym sum-bits) (subst (λ (v : ℕ). v < 2 ^ 32) (sym e) (result-lt (x / columnsOf f) (x % columnsOf f)))
+
     word-is : (lane i : ℕ) → lane < lanes → i < e .c → wordAt f (results k signs mode a b c) lane i ≡ at (major 2 (e .m / 8) lane i) (minor 2 (e .m / 8) lane i)
-    unfolding wordAt
     word-is lane i hl hi =
         let entries : ℕ → ℕ = λ i. getD (results k signs mode a b c) (index (columnsOf f) (placeIn f lane i)) 0 in
-        ap₂ (λ (b n : ℕ). field 32 i (joined b n entries)) sum-bits elements-words
+        round.word-number f laid (results k signs mode a b c) results-fit results-length lane i hl hi
+        ∙ ap₂ (λ (b n : ℕ). field 32 i (joined b n entries)) sum-bits elements-words
         ∙ field-joined 32 (e .c) entries (λ i h. subst (λ (v : ℕ). v < 2 ^ 32) (sym (result-at lane i hl (inside lane i hl h))) (result-lt _ _)) i hi
         ∙ result-at lane i hl (inside lane i hl hi)
 
@@ -170,15 +180,6 @@ module _ (k : ℕ) (ok : Arithmetic k) where
         (λ x h. word-is (x / e .c) (x % e .c) (div-lt-iff-lt-mul (laid .words-pos) .1 h) (mod-lt x (laid .words-pos)))
 
     -- read as a matrix, D has the results
-    results-length : length (results k signs mode a b c) ≡ rowsOf f * columnsOf f
-    results-length = ap length results-are ∙ length-tab (rowsOf f * columnsOf f) (blocks (columnsOf f) at)
-
-    results-fit : Fitting (f .bits) (results k signs mode a b c)
-    results-fit x h =
-        let e : getD (results k signs mode a b c) x 0 ≡ at (x / columnsOf f) (x % columnsOf f)
-        = ap (λ (xs : List ℕ). getD xs x 0) results-are ∙ getD-tab (rowsOf f * columnsOf f) (blocks (columnsOf f) at) x 0 (subst (λ (n : ℕ). x < n) results-length h) in
-        subst (λ (n : ℕ). getD (results k signs mode a b c) x 0 < 2 ^ n) (sym sum-bits) (subst (λ (v : ℕ). v < 2 ^ 32) (sym e) (result-lt (x / columnsOf f) (x % columnsOf f)))
-
     pub entry-D : (row column : ℕ) → row < rowsOf f → column < columnsOf f → entryIn k 2 (stepped k signs mode a b c) row column ≡ at row column
     unfolding entryIn stepped
     entry-D row column hr hc =
@@ -189,9 +190,8 @@ module _ (k : ℕ) (ok : Arithmetic k) where
 
   -- every entry of C or D is a 32-bit number
   pub entry-lt : (ws : List ℕ) (row column : ℕ) → row < rows e (roleOf 2) → column < columns e (roleOf 2) → entryIn k 2 ws row column < 2 ^ 32
-  unfolding elementAt
   entry-lt ws row column hr hc =
       let l = legal 2 (omega arith) in
       let x = holderOf f (row, column) in
       subst (λ (v : ℕ). v < 2 ^ 32) (sym (entry-is k 2 l ws row column (subst (λ (n : ℕ). row < n) (rows-are k 2 l) hr) (subst (λ (n : ℕ). column < n) (columns-are k 2 l) hc)))
-      (subst (λ (b : ℕ). field b (x .1) (laneNumber (e .c) ws (x .0)) < 2 ^ 32) (sym sum-bits) (field-lt 32 (x .1) (laneNumber (e .c) ws (x .0))))
+      (subst (λ (b : ℕ). elementAt (f .bits) (e .c) ws (x .0) (x .1) < 2 ^ b) sum-bits (element-lt (f .bits) (e .c) ws (x .0) (x .1)))

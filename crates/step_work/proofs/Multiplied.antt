@@ -18,7 +18,8 @@ use Rattle.step_limit.specs.Limits.{cellOf}
 use Rattle.step_work.specs.Workers.{Ready}
 use Rattle.step_products.specs.Sums.{offsetOf, raised, digitAt, offsetDot, digitsWord, digitsWords, Digits, Summable}
 use Rattle.step_products.specs.declared.Offsets.{Offsets}
-use Rattle.step_products.proofs.OffsetDots.{element-lt, dot-digits, offset-ext}
+use Rattle.buffers.proofs.Elements.{element-lt}
+use Rattle.step_products.proofs.OffsetDots.{dot-digits, offset-ext}
 use Rattle.step_products.proofs.Signs.{doubled}
 use Rattle.answers.specs.Tests.{Says}
 use Rattle.step_work.proofs.Matrices.{entry-A, entry-B, entry-C, stepped-is, legal, depth-is, depth-small, pairs, bits-pos, bits-le, columns-half, halves-pos, words-pos, room-A, room-B, halves-le}

@@ -6,9 +6,10 @@ use native.Mathlib.Omega.{arith}
 use lib.ListN.{length, getD}
 use Rattle.answers.specs.Refusals.{given}
 use Rattle.places.specs.PlaceCalls.{placeAnswer}
+use Rattle.kinds.specs.Places.{Place}
 use Rattle.kinds.proofs.Table.{layoutAt}
-use Rattle.buffers.specs.Buffers.{elementIn, index, unpackedOf, Fitting}
-use Rattle.buffers.proofs.Placed.{placed}
+use Rattle.buffers.specs.Buffers.{heldIn, elementAt, index, unpackedOf, Fitting}
+use Rattle.buffers.proofs.Placed.{bitsThere, placed}
 use Rattle.buffers.proofs.Round as round
 use Rattle.unpack.proofs.Promises.{unpacked-at}
 use Rattle.pack.proofs.Promises.{unpack-pack}
@@ -28,16 +29,18 @@ pub record-is-matrix : (bytes : List ℕ) → length bytes ≡ 256 → Fitting 8
     → unpackedOf 3 1 (templateWords bytes) ≡ bytes
 record-is-matrix = record-back
 
--- 'row k column c at byte 8k + c': the element of the words read whose place is row k, column c is that byte,
-pub read-at : (bytes : List ℕ) → length bytes ≡ 256 → Fitting 8 bytes → (lane i k c : ℕ)
-    → placeAnswer 3 1 lane i ≡ given (k, c)
-    → elementIn 3 1 (templateWords bytes) lane i ≡ getD bytes (8 * k + c) 0
-read-at bytes n fit lane i k c e =
-    let p = placed 3 1 lane i (k, c) e in
-    round.packed-at (layoutAt 3 1) template-laid bytes fit n lane i (p .0) (p .1)
-    ∙ ap (λ (z : ℕ). getD bytes z 0) (ap (index 8) (sym (p .2)) ∙ omega arith)
+-- 'row k column c at byte 8k + c': what stands in the words read at the word and bit of the place at row k, column c is that byte,
+pub read-at : (bytes : List ℕ) → length bytes ≡ 256 → Fitting 8 bytes → (lane i k c w b : ℕ)
+    → placeAnswer 3 1 lane i ≡ given (k, c, w, b)
+    → heldIn 3 1 (templateWords bytes) lane w b ≡ getD bytes (8 * k + c) 0
+unfolding elementAt
+read-at bytes n fit lane i k c w b e =
+    let p = placed 3 1 lane i (k, c, w, b) e in
+    ap (bitsThere 3 1 (templateWords bytes) lane) (p .2)
+    ∙ round.packed-at (layoutAt 3 1) template-laid bytes fit n lane i (p .0) (p .1)
+    ∙ ap (λ (z : ℕ). getD bytes z 0) (ap (λ (z : Place). index 8 (z .0, z .1)) (sym (p .2)) ∙ omega arith)
 
--- and the byte of the record written is that element of the words.
-pub written-at : (ws : List ℕ) (lane i k c : ℕ) → placeAnswer 3 1 lane i ≡ given (k, c)
-    → getD (templateRecord ws) (8 * k + c) 0 ≡ elementIn 3 1 ws lane i
-written-at ws lane i k c e = ap (λ (z : ℕ). getD (templateRecord ws) z 0) (omega arith) ∙ unpacked-at 3 1 ws lane i (k, c) e
+-- and the byte of the record written is what stands there in the words.
+pub written-at : (ws : List ℕ) (lane i k c w b : ℕ) → placeAnswer 3 1 lane i ≡ given (k, c, w, b)
+    → getD (templateRecord ws) (8 * k + c) 0 ≡ heldIn 3 1 ws lane w b
+written-at ws lane i k c w b e = ap (λ (z : ℕ). getD (templateRecord ws) z 0) (omega arith) ∙ unpacked-at 3 1 ws lane i (k, c, w, b) e

@@ -1,5 +1,5 @@
 // Works out document 01's bench figures on places and steps through the public calls, in the paper's order, one of them by the plain step too; then
-// figures of document 02's kinds 11 to 14.
+// figures of document 02's kinds 11 to 14, and of its words and bits.
 use answers::Verdict;
 use kinds::Column;
 use kinds::Element;
@@ -26,6 +26,7 @@ fn main() {
     later_places();
     later_bytes();
     later_ones();
+    spots();
 }
 
 fn places() {
@@ -102,6 +103,12 @@ fn later_ones() {
     long_step(b"kind 14, A and B all ones, C 0, and: ", 1, 0xFFFFFFFF);
 }
 
+fn spots() {
+    place(9, Role::A, 0, 3);
+    place(7, Role::C, 0, 3);
+    place(14, Role::A, 0, 127);
+}
+
 fn place(kind: u32, role: u32, lane: u32, element: u32) {
     print_matrix(kind, role);
     print_pair(b"lane ", lane, b" element ", element, b": ");
@@ -110,7 +117,10 @@ fn place(kind: u32, role: u32, lane: u32, element: u32) {
 
 fn print_placed(placed: Placed) {
     match placed {
-        Placed::At(row, column) => print_pair(b"(", row.0, b", ", column.0, b")"),
+        Placed::At(row, column, word, bit) => {
+            print_pair(b"(", row.0, b", ", column.0, b")");
+            print_pair(b" word ", word.0, b" bit ", bit.0, b"");
+        }
         Placed::Refused(refusal) => print_refusal(refusal),
     }
     print_text(b"\n");

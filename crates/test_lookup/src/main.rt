@@ -10,7 +10,7 @@ fn line(kind: u8, role: u8, lane: u8, element: u8) {
     print_number(b" ", lane as u64);
     print_number(b" ", element as u64);
     print_text(b": ");
-    let mut text = [0u8; 26];
+    let mut text = [0u8; 28];
     let end = lookup_text::put_lines(&[kind, role, lane, element], &mut text);
     print_text(&text[..end]);
 }

@@ -4,9 +4,8 @@ ghost use Prim.Native.Nat.{ℕ, _+_, _*_, _^_, _<_, _≤_};
 ghost use lib.ListN.{length, getD};
 ghost use Rattle.laws.specs.Fields.{field};
 ghost use Rattle.kinds.specs.Kinds.{lanes};
-ghost use Rattle.kinds.specs.Workers.{Laid};
 ghost use Rattle.laws.specs.Toward.{stores, Brings, Below};
-ghost use Rattle.buffers.specs.Buffers.{elementAt, unpacked};
+ghost use Rattle.buffers.specs.Buffers.{wordsFrom, unpacked};
 ghost use Rattle.buffers.specs.Stretches.{sizeOf, stretchesOf, OfLane, OfQuad};
 ghost use Rattle.unpack_lanes.specs.Workers.{Unpacks};
 use buffers::Quad;
@@ -35,20 +34,17 @@ fn scatter(matrix: &mut [u64], word: u64, bits: usize, side: usize, base: usize,
     }
 }
 
-// The one element of a stretch, where it takes a word, or two.
-fn element(words: &[u32], f: Layout, stretch: Stretch, lane: Lane) -> u64
-    requires { ⌜ Laid f × (length (now words) ≡ lanes * f .words) × (32 ≤ f .bits) × (stretch .0 < stretchesOf f) ×
-        (lane .0 < lanes) ⌝ }
-    ensures { λ r. ⌜ r ≡ elementAt (f .bits) (f .words) (now (words .entry)) (lane .0) (stretch .0) ⌝ }
+// What stands in word k, or for 64 bits in it and the next, the low half first.
+fn element(words: &[u32], bits: usize, k: usize) -> u64
+    requires { ⌜ (k < 256) × (k < length (now words)) × (bits ≡ 64 → k + 1 < length (now words)) ⌝ }
+    ensures { λ r. ⌜ r ≡ wordsFrom bits (now (words .entry)) k ⌝ }
 {
-    let at = lane.0 as usize * f.words;
-    let r = stretch.0;
-    if f.bits == 64 {
-        let low = word(words, at + r * 2);
-        let high = word(words, at + (r * 2 + 1));
+    let low = word(words, k);
+    if bits == 64 {
+        let high = word(words, k + 1);
         return high * 4294967296 + low;
     }
-    word(words, at + r)
+    low
 }
 
 // One stretch of a lane: the fields of a word, or one element.
@@ -58,12 +54,12 @@ fn fill_lane(words: &[u32], matrix: &mut [u64], f: Layout, stretch: Stretch, lan
         (now (matrix .entry)) (now (matrix .exit)) ⌝ }
 {
     let base = buffers::base_of(f, stretch, lane);
+    let k = lane.0 as usize * f.words + buffers::word_of(f, stretch);
     if f.bits < 32 {
         let step = buffers::step_of(f);
-        let fields = word(words, lane.0 as usize * f.words + stretch.0);
-        return scatter(matrix, fields, f.bits, f.side, base, step);
+        return scatter(matrix, word(words, k), f.bits, f.side, base, step);
     }
-    matrix[base] = element(words, f, stretch, lane);
+    matrix[base] = element(words, f.bits, k);
 }
 
 // The same stretch of a quad's lanes, and of every quad's.

@@ -8,7 +8,7 @@ ghost use Rattle.run.specs.Runs.{zeroRun};
 ghost use Rattle.scale.specs.ScaleCall.{scaleCall};
 ghost use Rattle.answers.specs.Calls.{giving};
 ghost use Rattle.answers.specs.Contracts.{Coded};
-ghost use Rattle.words.specs.Words.{pairOf, wordsOf, openInWords, feedInWords, readInWords};
+ghost use Rattle.words.specs.Words.{fourOf, pairOf, wordsOf, openInWords, feedInWords, readInWords};
 use kinds::Column;
 use kinds::Element;
 use kinds::Kind;
@@ -25,14 +25,14 @@ use scale::Side;
 use scale::Size;
 use scale::ThreadId;
 
-// Row and column of an element.
+// Row, column, word and bit of an element.
 #[no_mangle]
-pub extern "C" fn wz_place(kind: u32, role: u32, lane: u32, element: u32, out: &mut [u32; 2]) -> u64
-    ensures { λ r. ⌜ Coded (giving pairOf (placeCall kind role lane element)) (now (out .entry)) r (now (out .exit)) ⌝ }
+pub extern "C" fn wz_place(kind: u32, role: u32, lane: u32, element: u32, out: &mut [u32; 4]) -> u64
+    ensures { λ r. ⌜ Coded (giving fourOf (placeCall kind role lane element)) (now (out .entry)) r (now (out .exit)) ⌝ }
 {
     match places::place(Kind(kind), Role(role), Lane(lane), Element(element)) {
-        Placed::At(row, column) => {
-            words::put_pair(out, row.0, column.0);
+        Placed::At(row, column, word, bit) => {
+            words::put_four(out, row.0, column.0, word.0, bit.0);
             0
         }
         Placed::Refused(refusal) => words::code(refusal),

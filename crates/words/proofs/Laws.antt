@@ -1,4 +1,4 @@
--- The words that the C interface writes: a pair, and a run's. Assumes nothing.
+-- The words that the C interface writes: a place, a pair, and a run's. Assumes nothing.
 use mathlib.Core.Path.{_≡_, refl, ap, _∙_}
 use mathlib.Core.List.{List, [], _∷_, _++_}
 use Prim.Native.Nat.{ℕ, _-_, _≤_}

@@ -1,14 +1,18 @@
--- What the C interface writes: a pair, and a run as 132 words: kind, signs, mode, number, 128 sums. Assumes nothing.
+-- What the C interface writes: a place, a pair, and a run as 132 words: kind, signs, mode, number, 128 sums. Assumes nothing.
 use Prim.Native.Nat.{ℕ}
 use mathlib.Core.List.{List, [], _∷_}
 use lib.ListN.{getD, drop}
 use Rattle.answers.specs.Calls.{Call, giving, leftBy}
+use Rattle.kinds.specs.Places.{Place}
 use Rattle.run.specs.Runs.{runOf, zeroRun}
 use Rattle.run.specs.RunCalls.{openCall, feedCall, readCall}
 use Rattle.run.specs.Blocks.{Block}
 use Rattle.run.specs.declared.Run.{Run}
 
--- the two numbers that place and the reverse question write: row and column, or lane and element
+-- the four numbers that place writes, and the two that the reverse question writes: row, column, word and bit; lane and element
+abbrev pub fourOf : Place → List ℕ
+fourOf x = x .0 ∷ x .1 ∷ x .2 ∷ x .3 ∷ []
+
 abbrev pub pairOf : ℕ × ℕ → List ℕ
 pairOf x = x .0 ∷ x .1 ∷ []
 

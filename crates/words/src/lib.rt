@@ -1,6 +1,6 @@
-// An answer and a run as the words that C gets: the code of a verdict, a pair, and the 132 words of a run.
+// An answer and a run as the words that C gets: the code of a verdict, a place, a pair, and the 132 words of a run.
 ghost use mathlib.Core.Path.{_≡_};
-ghost use Prim.Native.Nat.{_+_, _*_, _^_};
+ghost use Prim.Native.Nat.{_+_, _*_, _^_, _≤_};
 ghost use mathlib.Core.List.{[], _∷_};
 ghost use lib.ListN.{length, drop};
 ghost use Rattle.answers.specs.Refusals.{numberOf, detailOf, told, after};
@@ -54,16 +54,15 @@ pub fn taken(words: &[u32]) -> Run
     }
 }
 
-// A run's first four words.
-fn put_head(run: Run, words: &mut [u32])
-    requires { ⌜ length (now words) ≡ 132 ⌝ }
-    ensures { λ _. ⌜ now (words .exit) ≡ run .kind .0 ∷ run .signs .0 ∷ run .mode .0 ∷ run .blocks ∷ drop 4
-        (now (words .entry)) ⌝ }
+// The first four words: a place's, or those before a run's sums.
+pub fn put_four(words: &mut [u32], first: u32, second: u32, third: u32, fourth: u32)
+    requires { ⌜ 4 ≤ length (now words) ⌝ }
+    ensures { λ _. ⌜ now (words .exit) ≡ first ∷ second ∷ third ∷ fourth ∷ drop 4 (now (words .entry)) ⌝ }
 {
-    words[0] = run.kind.0;
-    words[1] = run.signs.0;
-    words[2] = run.mode.0;
-    words[3] = run.blocks;
+    words[0] = first;
+    words[1] = second;
+    words[2] = third;
+    words[3] = fourth;
 }
 
 // A run into its words.
@@ -73,7 +72,7 @@ pub fn put(run: Run, words: &mut [u32])
 {
     let sums = run.sums;
     buffers::copy(&sums, &mut words[4..132]);
-    put_head(run, words);
+    put_four(words, run.kind.0, run.signs.0, run.mode.0, run.blocks);
 }
 
 // The words of a run that was fed, where the feed was accepted: refused, they stay. The answer is the verdict's code.

@@ -6,6 +6,7 @@ pub mod lengths;
 pub mod orders;
 pub mod places;
 mod plan;
+pub mod probes;
 pub mod runs;
 pub mod scales;
 pub mod steps;

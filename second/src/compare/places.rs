@@ -30,7 +30,9 @@ struct Call {
     last: [u32; 2],
     /// Whether these two are outside like thousands of others, which need not all be asked.
     one_of_many: fn(u32, u32) -> bool,
-    ask: fn(&dyn Calls, [u32; 4], &mut [u32; 2]) -> u64,
+    /// How many numbers it writes.
+    written: usize,
+    ask: fn(&dyn Calls, [u32; 4], &mut [u32]) -> u64,
 }
 
 const PLACE: Call = Call {
@@ -38,7 +40,10 @@ const PLACE: Call = Call {
     numbers: "kind, role, lane, element",
     last: [40, 140],
     one_of_many: |_, _| false,
-    ask: |calls, [kind, role, lane, element], out| calls.place(kind, role, lane, element, out),
+    written: 4,
+    ask: |calls, [kind, role, lane, element], out| {
+        calls.place(kind, role, lane, element, array_mut(out))
+    },
 };
 
 const FIND: Call = Call {
@@ -46,7 +51,10 @@ const FIND: Call = Call {
     numbers: "kind, role, row, column",
     last: [260, 260],
     one_of_many: |row, column| FAR.contains(&row) && FAR.contains(&column),
-    ask: |calls, [kind, role, row, column], out| calls.find(kind, role, row, column, out),
+    written: 2,
+    ask: |calls, [kind, role, row, column], out| {
+        calls.find(kind, role, row, column, array_mut(out))
+    },
 };
 
 pub fn wz_place(bench: &mut Bench) -> Result<Tally, Difference> {
@@ -72,7 +80,7 @@ fn every(bench: &mut Bench, call: &Call) -> Result<Tally, Difference> {
     for kind in range(16, &GREAT_KINDS) {
         for role in range(4, &GREAT_ROLES) {
             for third in range(third_last, &GREAT_PLACES) {
-                out.lay(&mut bench.random, 2);
+                out.lay(&mut bench.random, call.written);
                 for &fourth in &fourth {
                     if (call.one_of_many)(third, fourth) {
                         continue;
@@ -92,10 +100,9 @@ fn one(
     call: &Call,
     numbers: [u32; 4],
 ) -> Result<u64, Difference> {
-    let random = bench.random.draw();
-    out.refill(|words| words.copy_from_slice(&[random as u32, (random >> 32) as u32]));
-    let library = (call.ask)(bench.library, numbers, array_mut(out.library_mut()));
-    let rules = (call.ask)(bench.rules, numbers, array_mut(out.rules_mut()));
+    out.refill(|words| bench.random.fill(words));
+    let library = (call.ask)(bench.library, numbers, out.library_mut());
+    let rules = (call.ask)(bench.rules, numbers, out.rules_mut());
     compare(library, rules, &[&*out], || {
         format!("{} {numbers:?}", call.numbers)
     })

@@ -1,4 +1,4 @@
--- The loop's invariant: what is printed for the first i records was put, at most 12 bytes for each. The measure is the records that are
+-- The loop's invariant: what is printed for the first i records was put, at most 13 bytes for each. The measure is the records that are
 -- left. Assumes nothing.
 use borrow.Author.Needs.{needs}
 use Prim.Native.Nat.{_-_, _*_, _≤_}
@@ -14,7 +14,7 @@ use Rattle.lookup_text.proofs.put_lines.Statement.{statement}
 use Rattle.lookup_text.proofs.put_lines.Tie as tie
 
 abbrev Inv-loop : tie.InvT-loop
-Inv-loop records out₀ whole at₀ i₀ short out at i = (i ≤ whole) × (at ≤ 12 * i) × Put (printed (take (4 * i) records)) out₀ 0 out at
+Inv-loop records out₀ whole at₀ i₀ short out at i = (i ≤ whole) × (at ≤ 13 * i) × Put (printed (take (4 * i) records)) out₀ 0 out at
 
 abbrev μ-loop : tie.MeasureT-loop
 μ-loop records out₀ whole at₀ i₀ short out at i = whole - i

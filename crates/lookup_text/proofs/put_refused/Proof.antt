@@ -21,7 +21,7 @@ returns c =
     let q = p .before .before .before .before in
     let r = q .before .before .before .before in
     let all = put-put (r .put-text .ensures) (put-put (q .put-decimal .ensures) (p .put .ensures)) in
-    (all, put-ends all 12 (simp length-append (omega (arith, three _ (r .before .before .before .before .pre .1)))))
+    (all, put-ends all 13 (simp length-append (omega (arith, three _ (r .before .before .before .before .pre .1)))))
 
 pub put-refused-spec : {M : Type 1} → statement M
 put-refused-spec =

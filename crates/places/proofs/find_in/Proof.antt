@@ -26,14 +26,11 @@ lane-at-requires c κs = search needs
 cast-l : tie.Need-cast-l
 cast-l c = search needs
 
-element-at-requires : tie.Need-element-at-requires
-element-at-requires c κs = search needs
-
-cast-i : tie.Need-cast-i
-cast-i c = search needs
+spot-at-requires : tie.Need-spot-at-requires
+spot-at-requires c κs = search needs
 
 returns-3 : tie.Need-returns-3
-returns-3 c = record { reply-right = search needs; reply-is = ap₂ (λ (l i : ℕ). (l, i)) (c .before .lane-at .ensures .0) (c .element-at .ensures .0) }
+returns-3 c = record { reply-right = search needs; reply-is = ap₂ (λ (l i : ℕ). (l, i)) (c .before .before .lane-at .ensures .0) (c .before .spot-at .ensures .0) }
 
 pub find-in-spec : {M : Type 1} → statement M
 find-in-spec =
@@ -46,6 +43,5 @@ find-in-spec =
     returns-2
     lane-at-requires
     cast-l
-    element-at-requires
-    cast-i
+    spot-at-requires
     returns-3)

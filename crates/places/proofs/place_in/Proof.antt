@@ -35,15 +35,26 @@ along-requires c κs = search needs
 cast-y : tie.Need-cast-y
 cast-y c = search needs
 
+of-requires : tie.Need-of-requires
+of-requires c κs = search needs
+
 returns-3 : tie.Need-returns-3
 returns-3 c =
-    let s = c .before .before .before .before .before .before .before .before .before in
-    record { reply-right = search needs; reply-is = placed (s .args .f) _ _ _ _ true (c .before .before .across .ensures .0) (c .before .along .ensures .0) (c .if3 .taken) }
+    let o = c .before .before .before in
+    let s = o .before .before .before .before .before .before .before .before .before in
+    record {
+      reply-right = search needs;
+      reply-is = placed (s .args .f) _ _ _ _ _ _ true (o .before .before .across .ensures .0) (o .before .along .ensures .0) (c .if3 .taken) (o .of .ensures .0 .1) (o .of .ensures .0 .2);
+    }
 
 returns-4 : tie.Need-returns-4
 returns-4 c =
-    let s = c .before .before .before .before .before .before .before .before .before in
-    record { reply-right = search needs; reply-is = placed (s .args .f) _ _ _ _ false (c .before .before .across .ensures .0) (c .before .along .ensures .0) (c .if3 .left) }
+    let o = c .before .before .before in
+    let s = o .before .before .before .before .before .before .before .before .before in
+    record {
+      reply-right = search needs;
+      reply-is = placed (s .args .f) _ _ _ _ _ _ false (o .before .before .across .ensures .0) (o .before .along .ensures .0) (c .if3 .left) (o .of .ensures .0 .1) (o .of .ensures .0 .2);
+    }
 
 pub place-in-spec : {M : Type 1} → statement M
 place-in-spec =
@@ -59,5 +70,6 @@ place-in-spec =
     cast-x
     along-requires
     cast-y
+    of-requires
     returns-3
     returns-4)

@@ -1,6 +1,6 @@
 -- The pairs and the ones are those of the row's and the column's bits, so the words are. Assumes nothing.
 use borrow.Author.Needs.{needs}
-use mathlib.Core.Path.{_≡_, refl, _∙_}
+use mathlib.Core.Path.{refl, _∙_}
 use denote.Ref.{now}
 use Rattle.step_ones.proofs.Counts.{few-ones, sums-are}
 use Rattle.step_ones.proofs.fill.Statement.{statement}

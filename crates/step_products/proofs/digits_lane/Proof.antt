@@ -45,8 +45,7 @@ returns c =
     let a = s .args in
     let b = c .before .before .before .before .before .before .before .base-of in
     let w = c .before .before .word in
-    digits-stored (a .f) (a .mask) (now (a .words)) (now (a .out)) (s .pre .0) (a .stretch .0) (a .lane .0) (b .result) (s .pre .1) (s .pre .2) (b .ensures .0) (w .result) _ (w .ensures)
-    (λ k. c .before .before .before .before .before .before .before .before .shared-slice-known .given k .fits) (c .digits-of .ensures)
+    digits-stored (a .f) (a .mask) (now (a .words)) (now (a .out)) (s .pre .0) (a .stretch .0) (a .lane .0) (b .result) (s .pre .1) (s .pre .2) (b .ensures .0) (w .result) _ (w .ensures) (c .digits-of .ensures)
 
 pub digits-lane-spec : {M : Type 1} → statement M
 digits-lane-spec =

@@ -3,7 +3,7 @@ use borrow.Author.Needs.{needs}
 use mathlib.Core.Path.{_≡_, refl, ap, ap₂, subst, sym, _∙_}
 use mathlib.Core.List.{List}
 use Prim.Native.Nat.{ℕ, _+_, _-_, _^_, _<_, _≤_}
-use native.Mathlib.Nat.{lt-of-lt-of-le, mul-le-mul-left}
+use native.Mathlib.Nat.{lt-of-lt-of-le, mul-le-mul-left, mul-suc}
 use native.Mathlib.Omega.{arith}
 use denote.Ref.{now}
 use lib.ListN.{set}
@@ -28,8 +28,7 @@ loop-holds c = (search needs, refl)
 field-of-requires : tie.Need-field-of-requires Inv-loop μ-loop
 field-of-requires c κs =
     let s = c .before .before in
-    let l : c .before .loop .j ≤ s .args .side = omega arith in
-    (omega arith, omega (arith, mul-le-mul-left (s .args .bits) l))
+    (omega arith, omega (arith, mul-suc (s .args .bits) (c .before .loop .j), mul-le-mul-left (s .args .bits) (c .loop-test .taken), s .pre), omega arith)
 
 cast-out : tie.Need-cast-out Inv-loop μ-loop
 cast-out c =

@@ -37,8 +37,6 @@ module _ (t : tie.After-struct-known) where
         ≡ stepped k 0 (S .args .mode .0) (now (S .args .a)) (now (S .args .b)) (now (S .args .c))
     counted =
         counts.counted k (S .pre .0 .0) (S .pre .0 .1) spans halves known _ _ _ _
-        (λ x. t .before .before .before .before .shared-slice-known .given x .fits)
-        (λ x. t .before .before .before .shared-slice-known2 .given x .fits)
         (λ x. t .before .before .shared-slice-known3 .given x .fits)
 
 narrow : (t : tie.Then1) → (entryOf (k (t .before)) .b ≡ 1) × (entryOf (k (t .before)) .m / 8 ≡ 1)

@@ -2,7 +2,7 @@
 use mathlib.Core.Path.{_≡_, refl, ap, ap₂, _∙_}
 use mathlib.Core.List.{List}
 use Prim.Native.Nat.{ℕ, _+_, _*_, _-_, _<_, _≤_}
-use native.Mathlib.Nat.{mul-le-mul, mul-le-mul-left}
+use native.Mathlib.Nat.{mul-le-mul, mul-le-mul-left, mul-suc}
 use native.Mathlib.Omega.{arith}
 use denote.Ref.{now}
 use lib.ListN.{length, set}
@@ -31,15 +31,16 @@ module _ (c : tie.In-loop Inv-loop μ-loop) where
   inside : S .args .base + J * S .args .step < length (c .before .loop .matrix)
   inside = omega (arith, S .pre .1 J (c .loop-test .taken), c .before .loop .inv .2)
 
-  shift : S .args .bits * J ≤ 32
-  shift = let l : J ≤ S .args .side = omega arith in omega (arith, mul-le-mul-left (S .args .bits) l)
+  -- there is room for one field more
+  room : S .args .bits + S .args .bits * J ≤ 32
+  room = omega (arith, mul-suc (S .args .bits) J, mul-le-mul-left (S .args .bits) (c .loop-test .taken), S .pre .0)
 
 loop-holds : tie.Need-loop-holds Inv-loop μ-loop
 unfolding stores
 loop-holds c = (omega arith, refl, refl)
 
 field-of-requires : tie.Need-field-of-requires Inv-loop μ-loop
-field-of-requires c κs = (omega arith, omega (arith, shift c))
+field-of-requires c κs = (omega arith, room c, omega arith)
 
 mul-matrix : tie.Need-mul-matrix Inv-loop μ-loop
 mul-matrix c = omega (arith, offset (c .before))

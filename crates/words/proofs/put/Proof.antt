@@ -4,6 +4,7 @@ use borrow.Rule.Slice.PartMut.{same-len-mid}
 use mathlib.Core.Path.{_≡_, sym, ap, _∙_}
 use mathlib.Core.List.{List, _∷_, _++_}
 use Prim.Native.Nat.{ℕ}
+use native.Mathlib.Omega.{arith}
 use denote.Ref.{now}
 use lib.ListN.{length, take, drop}
 use Rattle.words.specs.Words.{wordsOf}
@@ -32,18 +33,18 @@ module _ (c : tie.After-copy) where
   is-behind = sums-behind (now (S .args .words)) (S .pre) (c .copy .last .1 .0) ∙ c .copy .ensures
 
 -- and then with the first four
-whole : (c : tie.After-put-head) → c .put-head .last .1 .0 ≡ wordsOf (S (c .before .before .before .before) .args .run)
+whole : (c : tie.After-put-four) → c .put-four .last .0 ≡ wordsOf (S (c .before .before .before .before) .args .run)
 unfolding wordsOf
 whole c =
     let d = c .before .before .before .before in
     let r = S d .args .run in
-    c .put-head .ensures ∙ ap (λ (zs : List ℕ). r .kind .0 ∷ r .signs .0 ∷ r .mode .0 ∷ r .blocks ∷ zs) (is-behind d)
+    c .put-four .ensures ∙ ap (λ (zs : List ℕ). r .kind .0 ∷ r .signs .0 ∷ r .mode .0 ∷ r .blocks ∷ zs) (is-behind d)
 
 copy-requires : tie.Need-copy-requires
 copy-requires c κs = let s = c .before .before .before .before in long s ∙ sym (length-lent (now (s .args .words)) (s .pre))
 
-put-head-requires : tie.Need-put-head-requires
-put-head-requires c κs = length-behind (c .before .before .before)
+put-four-requires : tie.Need-put-four-requires
+put-four-requires c κs = omega (arith, length-behind (c .before .before .before))
 
 same-length : tie.Need-same-length
 same-length c =
@@ -56,4 +57,4 @@ returns c = whole (c .before .before)
 pub put-spec : {M : Type 1} → statement M
 put-spec =
     tie.close
-    (tie.spec (λ c. search needs) (λ c. search needs) (λ c. search needs) (λ c. search needs) copy-requires put-head-requires same-length returns)
+    (tie.spec (λ c. search needs) (λ c. search needs) (λ c. search needs) (λ c. search needs) copy-requires put-four-requires same-length returns)
