@@ -45,7 +45,8 @@ enum {
 #define WZ_RUN_WORDS 132
 #define WZ_MAX_BLOCKS 4096
 
-/* Where an element of a lane sits: out is its row, its column, its word within the lane, its lowest bit in that word. */
+/* Where an element of a lane sits: out is its row, its column, its word within the lane, its lowest bit in that word; of a 64-bit element
+   the low word and bit 0. */
 uint64_t wz_place(uint32_t kind, uint32_t role, uint32_t lane, uint32_t element, uint32_t out[4]);
 
 /* Who holds a place: out is the lane, the element. */

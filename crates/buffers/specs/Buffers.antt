@@ -5,7 +5,7 @@ use lib.ListN.{length, getD}
 use Rattle.laws.specs.Choice.{if_then_else_, _=?_}
 use Rattle.laws.specs.Fields.{bitsFrom, joined}
 use Rattle.laws.specs.Lists.{tab, blocks}
-use Rattle.kinds.specs.Kinds.{lanes, wordBits, entryOf, roleOf, columns, bits, words, bitsAt, columnsAt, rowsAt, wordsAt}
+use Rattle.kinds.specs.Kinds.{lanes, wordBits, entryOf, roleOf, bitsAt, columnsAt, rowsAt, wordsAt}
 use Rattle.kinds.specs.Places.{wordWithin, lowestBit, whoseBit}
 use Rattle.kinds.specs.Rule.{layoutOf, rowsOf, columnsOf, placeIn, holderOf}
 use Rattle.kinds.specs.declared.Layout.{Layout}

@@ -17,7 +17,7 @@ use Rattle.laws.specs.Lists.{tab, blocks}
 use Rattle.laws.proofs.Bits.{ones-le}
 use Rattle.laws.proofs.Lists.{is-tab}
 use Rattle.laws.specs.Totals.{Wraps}
-use Rattle.kinds.specs.Kinds.{lanes, kindOf, roleOf, bits, words, bitsAt, columnsAt, elementsAt, rowsAt, wordsAt, Legal, oneBit, integer, Arithmetic}
+use Rattle.kinds.specs.Kinds.{lanes, kindOf, roleOf, bitsAt, columnsAt, elementsAt, rowsAt, wordsAt, Legal, oneBit, integer, Arithmetic}
 use Rattle.kinds.specs.Places.{placeOf, wordWithin, lowestBit, standsAt, whoseBit, withWordAndBit}
 use Rattle.answers.specs.Refusals.{given}
 use Rattle.places.specs.PlaceCalls.{placeCall, placeAnswer, findAnswer}
