@@ -215,13 +215,14 @@ fn layout_in(e: Entry, role: Role) -> Layout
     ensures { λ r. ⌜ r ≡ layoutOf e (roleOf (role .0)) ⌝ }
 {
     let r = role.0;
-    if r == Role::B {
-        return Layout::new(e.bits, e.b, side_of(e.bits), e.n, e.k, true);
-    }
     if r == Role::C {
         return Layout::new(Entry::sum_bits(e.element), e.c, 2, e.m, e.n, false);
     }
-    Layout::new(e.bits, e.a, side_of(e.bits), e.m, e.k, false)
+    let side = side_of(e.bits);
+    if r == Role::B {
+        return Layout::new(e.bits, e.b, side, e.n, e.k, true);
+    }
+    Layout::new(e.bits, e.a, side, e.m, e.k, false)
 }
 
 impl Layout {

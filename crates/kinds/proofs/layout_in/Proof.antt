@@ -20,33 +20,35 @@ module _ (e : Entry) (r p : ℕ) where
   as-C : r ≡ 2 → p ≡ sumBits (e .element) → spread p (e .c) 2 (e .m) (e .n) false ≡ layoutOf e (roleOf r)
   as-C n s = rw (n, s) refl
 
-new-requires : tie.Need-new-requires
-new-requires c κs = subst (λ (p : ℕ). 0 < p) (sym (c .side-of .ensures)) (c .before .before .pre .1)
-
 returns : tie.Need-returns
-returns c = c .new .ensures ∙ as-B _ _ _ (c .before .before .if1 .taken) (c .before .side-of .ensures)
+returns c = c .new .ensures ∙ as-C _ _ _ (c .before .before .if1 .taken) (c .before .sum-bits .ensures)
+
+some : (c : tie.After-side-of) → 0 < c .side-of .result
+some c = subst (λ (p : ℕ). 0 < p) (sym (c .side-of .ensures)) (c .before .before .pre .1)
+
+new-requires-2 : tie.Need-new-requires-2
+new-requires-2 c κs = some (c .before)
 
 returns-2 : tie.Need-returns-2
-returns-2 c = c .new2 .ensures ∙ as-C _ _ _ (c .before .before .if2 .taken) (c .before .sum-bits .ensures)
+returns-2 c = c .new2 .ensures ∙ as-B _ _ _ (c .before .if2 .taken) (c .before .before .side-of .ensures)
 
 new-requires-3 : tie.Need-new-requires-3
-new-requires-3 c κs = subst (λ (p : ℕ). 0 < p) (sym (c .side-of2 .ensures)) (c .before .before .before .pre .1)
+new-requires-3 c κs = some (c .before)
 
 returns-3 : tie.Need-returns-3
 returns-3 c =
     let s = c .before .before .before .before in
-    c .new3 .ensures ∙ as-A (s .args .e) (s .args .role .0) _ (omega arith) (c .before .side-of2 .ensures)
+    c .new3 .ensures ∙ as-A (s .args .e) (s .args .role .0) _ (omega arith) (c .before .before .side-of .ensures)
 
 pub layout-in-spec : {M : Type 1} → statement M
 layout-in-spec =
     tie.close
     (tie.spec
     (λ c κs. search needs)
-    new-requires
+    (λ c κs. search needs)
     returns
     (λ c κs. search needs)
-    (λ c κs. search needs)
+    new-requires-2
     returns-2
-    (λ c κs. search needs)
     new-requires-3
     returns-3)
