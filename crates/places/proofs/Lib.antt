@@ -1,2 +1,3 @@
 pub mod ByRule
+pub mod ByTable
 pub mod Promises

@@ -1,6 +1,7 @@
 -- What the workers answer. Assumes nothing.
 use Prim.Native.Nat.{ℕ}
 use mathlib.Core.List.{[], _∷_}
+use Rattle.answers.specs.Tests.{Test, is, both}
 use Rattle.answers.specs.Calls.{_when_, Call}
 use Rattle.kinds.specs.Places.{Place, withWordAndBit}
 use Rattle.kinds.specs.Rule.{elementsOf, majors, minors, placeIn, holderIn}
@@ -13,3 +14,7 @@ placeCallIn f lane i = record { refusals = 6 when elementOutside (elementsOf f) 
 
 abbrev pub findCallIn : Layout → ℕ × ℕ → Call (ℕ × ℕ)
 findCallIn f x = record { refusals = 6 when entryOutside (majors f) (minors f) (x .0) (x .1) ∷ []; gives = holderIn f x }
+
+-- K10: the tables are for kind 5's A
+abbrev pub tabled : (kind role : ℕ) → Test
+tabled k r = both (is k 5) (is r 0)

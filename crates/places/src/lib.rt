@@ -1,12 +1,12 @@
 // The place of an element, and the reverse question.
 ghost use mathlib.Core.Path.{_≡_};
 ghost use Prim.Native.Nat.{_<_};
-ghost use Rattle.answers.specs.Contracts.{Replies};
+ghost use Rattle.answers.specs.Contracts.{Tells, Replies};
 ghost use Rattle.kinds.specs.Places.{wordWithin, lowestBit};
 ghost use Rattle.kinds.specs.Rule.{majors, minors, elementOf};
 ghost use Rattle.kinds.specs.Workers.{Laid};
 ghost use Rattle.places.specs.PlaceCalls.{toldPlace, toldHolder, placeCall, findCall};
-ghost use Rattle.places.specs.Workers.{placeCallIn, findCallIn};
+ghost use Rattle.places.specs.Workers.{placeCallIn, findCallIn, tabled};
 use answers::Refusal;
 use kinds::Bit;
 use kinds::Column;
@@ -53,10 +53,46 @@ fn place_in(f: Layout, lane: Lane, element: Element) -> Placed
     Placed::At(Row(x), Column(y), word, bit)
 }
 
+// Whether the answers stand in the tables.
+fn has_table(kind: Kind, role: Role) -> bool
+    ensures { λ r. ⌜ Tells (tabled (kind .0) (role .0)) r ⌝ }
+{
+    if kind.0 != place_tables::KIND {
+        return false;
+    }
+    if role.0 != Role::A {
+        return false;
+    }
+    true
+}
+
+fn place_by_table(lane: Lane, element: Element) -> Placed
+    ensures { λ r. ⌜ Replies (placeCall 5 0 (lane .0) (element .0)) (toldPlace r) ⌝ }
+{
+    let l = lane.0;
+    let i = element.0;
+    if Lane::COUNT <= l as usize {
+        return Placed::Refused(Refusal::Outside);
+    }
+    if place_tables::ELEMENTS <= i {
+        return Placed::Refused(Refusal::Outside);
+    }
+    let entry = place_tables::place_at((place_tables::ELEMENTS * l + i) as usize) as u32;
+    let row = Row(entry / place_tables::COLUMNS);
+    let column = Column(entry % place_tables::COLUMNS);
+    let spot = Spot::of(place_tables::BITS, element);
+    let word = spot.word;
+    let bit = spot.bit;
+    Placed::At(row, column, word, bit)
+}
+
 // The place of an element: its row and column, its word within the lane and its lowest bit in that word.
 pub fn place(kind: Kind, role: Role, lane: Lane, element: Element) -> Placed
     ensures { λ r. ⌜ Replies (placeCall (kind .0) (role .0) (lane .0) (element .0)) (toldPlace r) ⌝ }
 {
+    if has_table(kind, role) {
+        return place_by_table(lane, element);
+    }
     match kinds::layout_of(kind, role) {
         Known::As(f) => place_in(f, lane, element),
         Known::Refused(x) => Placed::Refused(x),
@@ -90,10 +126,30 @@ fn find_in(f: Layout, x: u32, y: u32) -> Held
     Held::By(Lane(l), element)
 }
 
+fn find_by_table(row: Row, column: Column) -> Held
+    ensures { λ r. ⌜ Replies (findCall 5 0 (row .0) (column .0)) (toldHolder r) ⌝ }
+{
+    let x = row.0;
+    let y = column.0;
+    if place_tables::ROWS <= x {
+        return Held::Refused(Refusal::Outside);
+    }
+    if place_tables::COLUMNS <= y {
+        return Held::Refused(Refusal::Outside);
+    }
+    let entry = place_tables::holder_at((place_tables::COLUMNS * x + y) as usize) as u32;
+    let lane = Lane(entry / place_tables::ELEMENTS);
+    let element = Spot::of(place_tables::BITS, Element(entry % place_tables::ELEMENTS)).element;
+    Held::By(lane, element)
+}
+
 // The reverse question: the lane and the element whose place is at a row and a column.
 pub fn find(kind: Kind, role: Role, row: Row, column: Column) -> Held
     ensures { λ r. ⌜ Replies (findCall (kind .0) (role .0) (row .0) (column .0)) (toldHolder r) ⌝ }
 {
+    if has_table(kind, role) {
+        return find_by_table(row, column);
+    }
     match kinds::layout_of(kind, role) {
         Known::As(f) => {
             if f.turned {

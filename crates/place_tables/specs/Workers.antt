@@ -1,0 +1,25 @@
+-- What eight entries of a table are. Assumes nothing.
+use Prim.Native.Nat.{ℕ, zero, suc, _*_, _/_}
+use mathlib.Core.Path.{_≡_}
+use mathlib.Core.List.{List, [], _∷_}
+use lib.ListN.{getD}
+
+-- n is none of 0, 1, .., count - 1
+abbrev pub NoneBelow : (count n : ℕ) → Type 0
+NoneBelow zero n = Unit {0}
+NoneBelow (suc k) n = NoneBelow k n × (n ≡ k → ⊥)
+
+-- so many numbers that a rule gives, from n on
+abbrev pub inARow : (count : ℕ) → (rule : ℕ → ℕ) → (n : ℕ) → List ℕ
+inARow zero rule n = []
+inARow (suc k) rule n = rule n ∷ inARow k rule (suc n)
+
+-- which eight they are, by where the first of them stands in the reverse
+abbrev pub numberOf : (reverse : ℕ → ℕ) → (eight : List ℕ) → ℕ
+numberOf reverse eight = reverse (getD eight 0 0) / 8
+
+-- The eight entries from 8 n on of the table that a rule gives: they are the rule's from 8 times their number on, and n is that number, if
+-- what is none of the numbers before the last is the last. In this form the toolchain's own search closes every branch.
+pub record EightOf (rule reverse : ℕ → ℕ) (n : ℕ) (eight : List ℕ) : Type 0 where
+  pub number-is : (NoneBelow 127 n → n ≡ 127) → n ≡ numberOf reverse eight
+  pub entries-are : eight ≡ inARow 8 rule (8 * numberOf reverse eight)
