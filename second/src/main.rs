@@ -24,7 +24,8 @@ mod wazimroot;
 
 use calls::Rules;
 use compare::{
-    fragments, lengths, orders, places, probes, runs, scales, steps, templates, trips, Bench,
+    fragments, lengths, orders, places, probes, runs, scales, steps, tables, templates, trips,
+    Bench,
 };
 use random::Random;
 use report::{Difference, Tally};
@@ -70,7 +71,7 @@ fn arguments() -> Option<(Part, u64, u64)> {
 type Comparison = fn(&mut Bench) -> Result<Tally, Difference>;
 
 /// In such an order that the long ones fall to both parts of two.
-const COMPARISONS: [Comparison; 18] = [
+const COMPARISONS: [Comparison; 19] = [
     |bench| figures::figures(bench.library, bench.rules),
     places::wz_place,
     places::wz_find,
@@ -89,6 +90,7 @@ const COMPARISONS: [Comparison; 18] = [
     trips::round_trips,
     orders::runs,
     probes::probes,
+    tables::tables,
 ];
 
 /// Prints a line a comparison; gives how many cases were compared.

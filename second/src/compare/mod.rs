@@ -10,6 +10,7 @@ pub mod probes;
 pub mod runs;
 pub mod scales;
 pub mod steps;
+pub mod tables;
 pub mod templates;
 pub mod trips;
 
