@@ -7,6 +7,7 @@ mod cases;
 mod clock;
 mod lookups;
 mod plain;
+mod questions;
 mod random;
 #[path = "../include/wazimroot.rs"]
 mod wazimroot;
@@ -14,6 +15,7 @@ mod wazimroot;
 use cases::Case;
 use clock::processor_time;
 use lookups::Lookups;
+use questions::{Asked, Questions};
 use random::Random;
 use std::io;
 use std::path::{Path, PathBuf};
@@ -39,7 +41,33 @@ fn main() -> io::Result<()> {
         let [library, c, rust] = measure(&tables, case);
         print_row(&case.name, library, c, Some(rust));
     }
-    compare_lookups([lookup, plain_lookup], &folder, random)
+    compare_lookups([lookup, plain_lookup], &folder, random)?;
+    compare_questions(random);
+    Ok(())
+}
+
+fn compare_questions(random: &mut Random) {
+    let tables = questions::tables();
+    questions::agree(&tables, random);
+    println!();
+    println!("| 1,000,000 questions | library | C, rule | C, tables | ratio |");
+    println!("|---|---:|---:|---:|---:|");
+    for kind in [5, 3] {
+        for asked in [Asked::Place, Asked::Find] {
+            let asked = Questions::new(asked, kind, random);
+            let [library, rule, table] = medians(|which| {
+                let began = processor_time();
+                asked.ask(&tables[which]);
+                processor_time() - began
+            })
+            .map(micros);
+            print_cells(
+                &asked.name,
+                &[library, rule, table].map(digits),
+                library / rule,
+            );
+        }
+    }
 }
 
 fn compare_lookups(programs: [PathBuf; 2], folder: &Path, random: &mut Random) -> io::Result<()> {
@@ -101,13 +129,16 @@ fn micros(time: Duration) -> f64 {
 /// The ratio is to the faster of the plain ones.
 fn print_row(name: &str, library: f64, c: f64, rust: Option<f64>) {
     let faster = rust.map_or(c, |rust| rust.min(c));
-    println!(
-        "| {name} | {} | {} | {} | {:.2} |",
+    let cells = [
         digits(library),
         digits(c),
         rust.map_or(String::new(), digits),
-        library / faster
-    );
+    ];
+    print_cells(name, &cells, library / faster);
+}
+
+fn print_cells(name: &str, cells: &[String; 3], ratio: f64) {
+    println!("| {name} | {} | {ratio:.2} |", cells.join(" | "));
 }
 
 /// With three digits, or all those before the point.

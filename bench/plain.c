@@ -52,6 +52,17 @@ static struct place place_of(const struct layout *l, size_t lane, size_t group, 
     return l->role == ROLE_B ? (struct place){minor, major} : (struct place){major, minor};
 }
 
+struct holder {
+    size_t lane, element;
+};
+
+static struct holder holder_of(const struct layout *l, size_t row, size_t column) {
+    size_t major = l->role == ROLE_B ? column : row;
+    size_t minor = l->role == ROLE_B ? row : column;
+    size_t group = minor / l->side / QUAD * l->halves + major / HALF;
+    return (struct holder){major % HALF * QUAD + minor / l->side % QUAD, group * l->side + minor % l->side};
+}
+
 static size_t index_of(const struct layout *l, size_t lane, size_t group, size_t i) {
     struct place at = place_of(l, lane, group, i);
     return at.row * l->columns + at.column;
@@ -103,6 +114,63 @@ uint64_t plain_c_place(uint32_t kind, uint32_t role, uint32_t lane, uint32_t ele
     out[1] = (uint32_t)at.column;
     out[2] = (uint32_t)(element * l.bits / WORD_BITS);
     out[3] = (uint32_t)(element * l.bits % WORD_BITS);
+    return 0;
+}
+
+uint64_t plain_c_find(uint32_t kind, uint32_t role, uint32_t row, uint32_t column, uint32_t out[2]) {
+    uint64_t refused = judge_role(kind, role);
+    if (refused)
+        return refused;
+    struct layout l = layout_of(kind, role);
+    if (row >= l.rows || column >= l.columns)
+        return refusal(WZ_OUTSIDE, 0);
+    struct holder by = holder_of(&l, row, column);
+    out[0] = (uint32_t)by.lane;
+    out[1] = (uint32_t)by.element;
+    return 0;
+}
+
+/* Kind 5's A by tables: entry 32 l + i of the first is 64 times row plus column, entry 64 r + c of the second 32 times lane plus element. */
+enum { TABLE_KIND = 5, TABLE_ELEMENTS = 32, TABLE_ROWS = 16, TABLE_COLUMNS = 64, TABLE_BITS = 4 };
+
+#define PLACE(l, i) (((i) / 8 % 2 * 8 + (l) / 4) * 64 + (i) / 16 * 32 + (l) % 4 * 8 + (i) % 8)
+#define HOLDER(r, c) (((r) % 8 * 4 + (c) / 8 % 4) * 32 + ((c) / 32 * 2 + (r) / 8) * 8 + (c) % 8)
+#define EIGHT(f, a, b) f(a, b), f(a, b + 1), f(a, b + 2), f(a, b + 3), f(a, b + 4), f(a, b + 5), f(a, b + 6), f(a, b + 7)
+#define LANE(l) EIGHT(PLACE, l, 0), EIGHT(PLACE, l, 8), EIGHT(PLACE, l, 16), EIGHT(PLACE, l, 24)
+#define HALF_ROW(r, c) EIGHT(HOLDER, r, c), EIGHT(HOLDER, r, c + 8), EIGHT(HOLDER, r, c + 16), EIGHT(HOLDER, r, c + 24)
+#define ROW(r) HALF_ROW(r, 0), HALF_ROW(r, 32)
+
+static const uint16_t PLACES[LANES * TABLE_ELEMENTS] = {
+    LANE(0),  LANE(1),  LANE(2),  LANE(3),  LANE(4),  LANE(5),  LANE(6),  LANE(7),  LANE(8),  LANE(9),  LANE(10),
+    LANE(11), LANE(12), LANE(13), LANE(14), LANE(15), LANE(16), LANE(17), LANE(18), LANE(19), LANE(20), LANE(21),
+    LANE(22), LANE(23), LANE(24), LANE(25), LANE(26), LANE(27), LANE(28), LANE(29), LANE(30), LANE(31),
+};
+static const uint16_t HOLDERS[TABLE_ROWS * TABLE_COLUMNS] = {
+    ROW(0), ROW(1), ROW(2),  ROW(3),  ROW(4),  ROW(5),  ROW(6),  ROW(7),
+    ROW(8), ROW(9), ROW(10), ROW(11), ROW(12), ROW(13), ROW(14), ROW(15),
+};
+
+uint64_t plain_c_place_by_table(uint32_t kind, uint32_t role, uint32_t lane, uint32_t element, uint32_t out[4]) {
+    if (kind != TABLE_KIND || role != ROLE_A)
+        return plain_c_place(kind, role, lane, element, out);
+    if (lane >= LANES || element >= TABLE_ELEMENTS)
+        return refusal(WZ_OUTSIDE, 0);
+    uint32_t entry = PLACES[lane * TABLE_ELEMENTS + element];
+    out[0] = entry / TABLE_COLUMNS;
+    out[1] = entry % TABLE_COLUMNS;
+    out[2] = element * TABLE_BITS / WORD_BITS;
+    out[3] = element * TABLE_BITS % WORD_BITS;
+    return 0;
+}
+
+uint64_t plain_c_find_by_table(uint32_t kind, uint32_t role, uint32_t row, uint32_t column, uint32_t out[2]) {
+    if (kind != TABLE_KIND || role != ROLE_A)
+        return plain_c_find(kind, role, row, column, out);
+    if (row >= TABLE_ROWS || column >= TABLE_COLUMNS)
+        return refusal(WZ_OUTSIDE, 0);
+    uint32_t entry = HOLDERS[row * TABLE_COLUMNS + column];
+    out[0] = entry / TABLE_ELEMENTS;
+    out[1] = entry % TABLE_ELEMENTS;
     return 0;
 }
 

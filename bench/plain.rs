@@ -62,8 +62,8 @@ static KINDS: [Kind; 14] = [
 /// row of A and C, in a column of B.
 pub struct Layout {
     role: usize,
-    rows: usize,
-    columns: usize,
+    pub rows: usize,
+    pub columns: usize,
     pub bits: usize,
     words: usize,
     side: usize,
