@@ -21,6 +21,7 @@ at-table k r b t e P p =
     let is = says (tabled k r) .0 (sym (tells-is t) ∙ e) in
     subst (λ (r : ℕ). P k r) (sym (is .1)) (subst (λ (k : ℕ). P k 0) (sym (is .0)) p)
 
+-- row and column of an entry, with the element's word and bit
 pub placed : (l i e w b : ℕ) → l < 32 → i < 32 → e ≡ getD placeTable (32 * l + i) 0 → w ≡ wordWithin 4 i → b ≡ lowestBit 4 i
     → (e / 64, e % 64, w, b) ≡ withWordAndBit 4 i (placeOf kind5 roleA l i)
 placed l i e w b hl hi p ew eb =
@@ -31,6 +32,7 @@ placed l i e w b hl hi p ew eb =
     let column : e % 64 ≡ x .1 = omega (arith, sum, below) in
     rw (row, column, ew, eb) refl
 
+-- lane and element of an entry
 pub held : (x y e : ℕ) → x < 16 → y < 64 → e ≡ getD holderTable (64 * x + y) 0 → (e / 32, e % 32) ≡ holderOf (layoutAt 5 0) (x, y)
 held x y e hx hy p =
     let sum : e ≡ 32 * laneOf 8 x y + elementOf 8 2 x y = p ∙ holder-entry x y hx hy in
