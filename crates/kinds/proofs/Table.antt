@@ -1,7 +1,8 @@
 -- What holds of every line of the kinds table and every role, by tests that antt computes over the whole table. Assumes nothing.
-use mathlib.Core.Path.{_≡_}
+use mathlib.Core.Path.{_≡_, refl, subst}
 use mathlib.Core.Bool.{Bool, true, false, not, _||_, false≢true}
-use Prim.Native.Nat.{ℕ, _-_, _*_, _/_, _<_, _≤_}
+use Prim.Native.Nat.{ℕ, _+_, _-_, _*_, _/_, _<_, _≤_}
+use native.Mathlib.Decide.{ℕ-discrete}
 use native.Mathlib.Omega.{arith}
 use borrow.Author.Tests.{eqb-true, ne-eqb, lt-ltb, le-ltb}
 use lib.Dec.{T, leb, eqb, leb→le, eqb→eq}
@@ -12,7 +13,7 @@ use Rattle.answers.specs.Tests.{within, Says, holds}
 use Rattle.answers.proofs.Words.{says}
 use Rattle.kinds.specs.Kinds.{kinds, roles, lineAt, entryOf, roleOf, KnownRole, rows, columns, bits, words, elements, wordBits, bitsAt, columnsAt, elementsAt, rowsAt, wordsAt, oneBitElement, oneBit, integer, Legal}
 use Rattle.kinds.specs.Rule.{sideOf, layoutOf, elementsOf, majors, minors, rowsOf, columnsOf, turn}
-use Rattle.kinds.specs.Workers.{Laid}
+use Rattle.kinds.specs.Workers.{Width, Laid}
 use Rattle.kinds.specs.declared.Entry.{Entry}
 use Rattle.kinds.specs.declared.Layout.{Layout}
 
@@ -53,13 +54,6 @@ module _ (k r : ℕ) (ok : Legal k r) where
 
   eq-test : (f g : Entry → KnownRole → ℕ) → T (all₂ kinds roles (λ j r. eqb (f (lineAt j) (roleOf r)) (g (lineAt j) (roleOf r)))) → f (entryOf k) (roleOf r) ≡ g (entryOf k) (roleOf r)
   eq-test f g t = all₂-≡ kinds roles (λ j r. f (lineAt j) (roleOf r)) (λ j r. g (lineAt j) (roleOf r)) t (k - 1) r (omega arith) (omega arith)
-
-  -- the bits of A and B, by which the code works out how many elements stand side by side
-  pub bits-pos : 0 < entryOf k .bits
-  bits-pos = le-test (λ e ρ. 1) (λ e ρ. e .bits) tt
-
-  pub side-pos : 0 < sideOf (entryOf k .bits)
-  side-pos = le-test (λ e ρ. 1) (λ e ρ. sideOf (e .bits)) tt
 
   -- a lane has as many elements by the rule as by its words and bits
   pub elements-are : elementsAt k r ≡ elementsOf (layoutAt k r)
@@ -125,3 +119,29 @@ module _ (k r : ℕ) (ok : Legal k r) where
     narrow-side = narrow-side;
     wide-side = wide-side;
   }
+
+-- the width of A and B, by which the code works out how many elements stand side by side
+pub width : (k : ℕ) → 1 ≤ k → k ≤ kinds → Width (entryOf k .bits)
+width k low high = sane k 0 (record { low = low; high = high; role = omega arith }) .width
+
+-- 32 by a width, rounded up, is as many elements as stand side by side, by a test over all numbers up to 64
+abbrev fits : ℕ → Bool
+fits b = b =? 64 || b * (32 / b) =? 32
+
+or-true : (a : Bool) → (a || true) ≡ true
+or-true true = refl
+or-true false = refl
+
+width-fits : (b : ℕ) → Width b → Dec (b ≡ 64) → fits b ≡ true
+width-fits b w (yes e) = rw e refl
+width-fits b w (no ne) = rw (w .narrow ne) (or-true (b =? 64))
+
+pub side-is : (b : ℕ) → Width b → 31 / b + 1 ≡ sideOf b
+side-is b w =
+    let le = w .le in
+    eqb→eq (31 / b + 1) (sideOf b)
+    (where-so (fits b) (31 / b + 1 =? sideOf b) (width-fits b w (ℕ-discrete b 64))
+    (all-at 65 (λ b. not (fits b) || 31 / b + 1 =? sideOf b) tt b (omega arith)))
+
+pub side-pos : (b : ℕ) → Width b → 0 < sideOf b
+side-pos b w = subst (λ (p : ℕ). 0 < p) (side-is b w) (omega arith)

@@ -1,15 +1,34 @@
 -- What the workers answer, and what they ask for. Assumes nothing.
-use Prim.Native.Nat.{ℕ, _*_, _/_, _<_, _≤_}
+use Prim.Native.Nat.{ℕ, zero, suc, _*_, _/_, _<_, _≤_}
 use mathlib.Core.Path.{_≡_}
+use mathlib.Core.Bool.{Bool, _&&_}
+use mathlib.Core.List.{List, [], _∷_}
+use lib.ListN.{getD}
+use Rattle.laws.specs.Choice.{if_then_else_, _=?_, NoneBelow}
 use Rattle.answers.specs.Refusals.{Answer, given, refused}
 use Rattle.answers.specs.Calls.{Call}
-use Rattle.kinds.specs.Kinds.{roleA, roleB, roleC, wordBits, entryOf, roleOf}
+use Rattle.kinds.specs.Kinds.{kinds, table, roleA, roleB, roleC, wordBits, entryOf, roleOf}
 use Rattle.kinds.specs.Rule.{layoutOf}
 use Rattle.kinds.specs.Refusals.{layoutRefusals}
+use Rattle.kinds.specs.declared.Line.{Line}
 use Rattle.kinds.specs.declared.Layout.{Layout}
 use Rattle.kinds.specs.declared.Layouts.{Layouts}
 use Rattle.kinds.specs.declared.Known.{Known}
 use Rattle.kinds.specs.declared.Known.the-variants.{As, Refused as Known·Refused}
+
+-- where a line stands among some, by its m, its k and its element, or how many they are if it is none of them
+abbrev pub alike : Line → Line → Bool
+alike l x = (l .0 =? x .0) && (l .2 =? x .2) && (l .4 =? x .4)
+
+abbrev pub standsIn : List Line → Line → ℕ
+standsIn [] l = zero
+standsIn (x ∷ xs) l = if alike l x then zero else suc (standsIn xs l)
+
+-- The line at n of the table: it is the line where it stands, and n is where it stands, if what is none of the lines' numbers is the one past
+-- the last. In this form the prover closes every branch by computing alone.
+pub record LineAt (n : ℕ) (l : Line) : Type 0 where
+  pub number-is : (NoneBelow kinds n → n ≡ kinds) → n ≡ standsIn table l
+  pub line-is : getD table (standsIn table l) l ≡ l
 
 -- the layout of a kind and a role, and the layouts of a kind's A, B and C
 abbrev pub toldLayout : Known → Answer Layout

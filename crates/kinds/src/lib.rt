@@ -5,7 +5,7 @@ ghost use Rattle.answers.specs.Contracts.{Replies};
 ghost use Rattle.kinds.specs.Kinds.{kinds, sumBits, entryOf, roleOf};
 ghost use Rattle.kinds.specs.Places.{wordWithin, lowestBit};
 ghost use Rattle.kinds.specs.Rule.{spread, sideOf, layoutOf};
-ghost use Rattle.kinds.specs.Workers.{toldLayout, layoutCall, layoutsOf, Laid};
+ghost use Rattle.kinds.specs.Workers.{LineAt, toldLayout, layoutCall, layoutsOf, Width, Laid};
 use answers::Refusal;
 
 pub mod rule;
@@ -77,8 +77,7 @@ impl Spot {
     }
 }
 
-// A line of the kinds table: m, n, k; bits of an A or B element, and what it is; words per lane of A, of B, of C or D. A look at one line costs
-// a copy of the table, and a copy goes by sixteen bytes, so many as a line has, or by the eight that a place needs.
+// A line of the kinds table: m, n, k; bits of an A or B element, and what it is; words per lane of A, of B, of C or D.
 pub struct Line(
     pub u16,
     pub u16,
@@ -90,22 +89,29 @@ pub struct Line(
     pub u16,
 );
 
-const KINDS: [Line; Kind::COUNT as usize] = [
-    Line(8, 8, 128, 1, Entry::ONE_BIT, 1, 1, 2),
-    Line(16, 8, 16, 8, Entry::INT8, 2, 1, 4),
-    Line(16, 8, 32, 8, Entry::INT8, 4, 2, 4),
-    Line(16, 8, 32, 4, Entry::INT4, 2, 1, 4),
-    Line(16, 8, 64, 4, Entry::INT4, 4, 2, 4),
-    Line(16, 8, 8, 16, Entry::F16, 2, 1, 4),
-    Line(16, 8, 8, 16, Entry::F16_SUMS, 2, 1, 2),
-    Line(16, 8, 8, 32, Entry::TF32, 4, 2, 4),
-    Line(16, 8, 8, 64, Entry::F64, 8, 4, 8),
-    Line(8, 8, 4, 64, Entry::F64, 2, 2, 4),
-    Line(8, 8, 16, 8, Entry::INT8, 1, 1, 2),
-    Line(8, 8, 32, 4, Entry::INT4, 1, 1, 2),
-    Line(16, 8, 128, 1, Entry::ONE_BIT, 2, 1, 4),
-    Line(16, 8, 256, 1, Entry::ONE_BIT, 4, 2, 4),
-];
+// The table, a line a kind. The lines stand in branches of a `match`, which the compiler lays into constant memory: a constant array it would
+// write out anew at each look. No kind has the last one; its bits are not 0, or the compiler would test the bits of each line for 0.
+fn line_at(number: usize) -> Line
+    ensures { λ r. ⌜ LineAt number r ⌝ }
+{
+    match number {
+        0 => Line(8, 8, 128, 1, Entry::ONE_BIT, 1, 1, 2),
+        1 => Line(16, 8, 16, 8, Entry::INT8, 2, 1, 4),
+        2 => Line(16, 8, 32, 8, Entry::INT8, 4, 2, 4),
+        3 => Line(16, 8, 32, 4, Entry::INT4, 2, 1, 4),
+        4 => Line(16, 8, 64, 4, Entry::INT4, 4, 2, 4),
+        5 => Line(16, 8, 8, 16, Entry::F16, 2, 1, 4),
+        6 => Line(16, 8, 8, 16, Entry::F16_SUMS, 2, 1, 2),
+        7 => Line(16, 8, 8, 32, Entry::TF32, 4, 2, 4),
+        8 => Line(16, 8, 8, 64, Entry::F64, 8, 4, 8),
+        9 => Line(8, 8, 4, 64, Entry::F64, 2, 2, 4),
+        10 => Line(8, 8, 16, 8, Entry::INT8, 1, 1, 2),
+        11 => Line(8, 8, 32, 4, Entry::INT4, 1, 1, 2),
+        12 => Line(16, 8, 128, 1, Entry::ONE_BIT, 2, 1, 4),
+        13 => Line(16, 8, 256, 1, Entry::ONE_BIT, 4, 2, 4),
+        _ => Line(0, 0, 0, 1, Entry::ONE_BIT, 0, 0, 0),
+    }
+}
 
 // The same with its columns named.
 pub struct Entry {
@@ -155,7 +161,7 @@ impl Entry {
         ensures is { λ r. ⌜ r ≡ entryOf (kind .0) ⌝ }
         ensures element { λ r. ⌜ (r .element ≡ entryOf (kind .0) .element) × (1 ≤ r .element) ⌝ }
     {
-        let line = KINDS[(kind.0 - 1) as usize];
+        let line = line_at((kind.0 - 1) as usize);
         Entry {
             m: line.0,
             n: line.1,
@@ -202,16 +208,17 @@ impl Layout {
     }
 }
 
-// The elements that stand side by side in A and B: as many as a word holds, or one where an element takes two words.
+// The elements that stand side by side in A and B: as many as a word holds, or one where an element takes two words. That is 32 by bits, rounded
+// up: no test, which the compiler would make of a line's constants into a jump for each kind.
 fn side_of(bits: u16) -> u16
-    requires { ⌜ 0 < bits ⌝ }
+    requires { ⌜ Width bits ⌝ }
     ensures { λ r. ⌜ r ≡ sideOf bits ⌝ }
 {
-    if bits < 32 { 32 / bits } else { 1 }
+    31 / bits + 1
 }
 
 fn layout_in(e: Entry, role: Role) -> Layout
-    requires { ⌜ (0 < e .bits) × (0 < sideOf (e .bits)) × (role .0 ≤ 2) ⌝ }
+    requires { ⌜ Width (e .bits) × (role .0 ≤ 2) ⌝ }
     ensures { λ r. ⌜ r ≡ layoutOf e (roleOf (role .0)) ⌝ }
 {
     let r = role.0;

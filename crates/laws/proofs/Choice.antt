@@ -1,6 +1,9 @@
--- What a joined test says of its parts. Assumes nothing.
+-- What a joined test says of its parts, and what is left after a row of numbers. Assumes nothing.
 use mathlib.Core.Path.{_≡_, refl}
 use mathlib.Core.Bool.{Bool, true, false, _&&_, _||_, true≢false, false≢true}
+use Prim.Native.Nat.{ℕ, zero, suc, _≤_, zero-le}
+use native.Mathlib.Omega.{arith}
+use Rattle.laws.specs.Choice.{NoneBelow}
 
 pub and-true : (a b : Bool) → (a && b) ≡ true → (a ≡ true) × (b ≡ true)
 and-true true b e = (refl, e)
@@ -19,3 +22,7 @@ or-comm true true = refl
 or-comm true false = refl
 or-comm false true = refl
 or-comm false false = refl
+
+pub none-below : (count n : ℕ) → NoneBelow count n → count ≤ n
+none-below zero n o = zero-le
+none-below (suc k) n o = let l = none-below k n (o .0) in let ne = o .1 in omega (arith, ne)

@@ -1,6 +1,6 @@
 -- Laws of `tab` and `fills`: what stands where, one store more, one block more, and a buffer that was filled whole. Assumes nothing.
 use mathlib.Core.Path.{_≡_, refl, sym, ap, ap₂, _∙_}
-use mathlib.Core.List.{List, _∷_}
+use mathlib.Core.List.{List, [], _∷_}
 use mathlib.Core.Logic.{_⊎_, inl, inr}
 use Prim.Native.Nat.{ℕ, zero, suc, _+_, _*_, _≤_, _<_, zero-le, suc-le-suc}
 use native.Mathlib.Nat.{not-suc-le-zero, le-of-suc-le-suc, eq-or-lt-of-le, add-assoc, add-suc, suc-mul, add-zero, zero-add, mul-le-mul-right}
@@ -16,6 +16,12 @@ pub block-le : (k n w : ℕ) → k < n → k * w + w ≤ n * w
 block-le k n w h = let l : suc k ≤ n = h in omega (arith, mul-le-mul-right w l, suc-mul k w)
 
 module _ {A : Type 0} where
+  -- within a list, what stands past its end has no say
+  pub getD-any : (xs : List A) (i : ℕ) (d e : A) → i < length xs → getD xs i d ≡ getD xs i e
+  getD-any [] i d e l = absurd (not-suc-le-zero l)
+  getD-any (x ∷ xs) zero d e l = refl
+  getD-any (x ∷ xs) (suc i) d e l = getD-any xs i d e (le-of-suc-le-suc l)
+
   pub length-tab : (n : ℕ) (f : ℕ → A) → length (tab n f) ≡ n
   unfolding tab
   length-tab zero f = refl

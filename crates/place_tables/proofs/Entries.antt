@@ -2,18 +2,15 @@
 -- the rule's there. Assumes nothing.
 use mathlib.Core.Path.{_≡_, sym, ap, _∙_}
 use mathlib.Core.List.{List}
-use Prim.Native.Nat.{ℕ, zero, suc, _+_, _*_, _/_, _%_, _≤_, _<_, zero-le}
+use Prim.Native.Nat.{ℕ, zero, suc, _+_, _*_, _/_, _%_, _<_}
 use native.Mathlib.Nat.{not-suc-le-zero, le-of-suc-le-suc}
 use native.Mathlib.Omega.{arith}
 use lib.ListN.{getD}
 use Rattle.laws.specs.Lists.{tab}
+use Rattle.laws.proofs.Choice.{none-below}
 use Rattle.laws.proofs.Lists.{getD-tab}
 use Rattle.place_tables.specs.Tables.{entries}
-use Rattle.place_tables.specs.Workers.{NoneBelow, inARow, numberOf, EightOf}
-
-none-below : (count n : ℕ) → NoneBelow count n → count ≤ n
-none-below zero n o = zero-le
-none-below (suc k) n o = let l = none-below k n (o .0) in let ne = o .1 in omega (arith, ne)
+use Rattle.place_tables.specs.Workers.{inARow, numberOf, EightOf}
 
 in-a-row : (count : ℕ) (rule : ℕ → ℕ) (n j : ℕ) → j < count → getD (inARow count rule n) j 0 ≡ rule (n + j)
 in-a-row zero rule n j h = absurd (not-suc-le-zero h)

@@ -3,11 +3,7 @@ use Prim.Native.Nat.{ℕ, zero, suc, _*_, _/_}
 use mathlib.Core.Path.{_≡_}
 use mathlib.Core.List.{List, [], _∷_}
 use lib.ListN.{getD}
-
--- n is none of 0, 1, .., count - 1
-abbrev pub NoneBelow : (count n : ℕ) → Type 0
-NoneBelow zero n = Unit {0}
-NoneBelow (suc k) n = NoneBelow k n × (n ≡ k → ⊥)
+use Rattle.laws.specs.Choice.{NoneBelow}
 
 -- so many numbers that a rule gives, from n on
 abbrev pub inARow : (count : ℕ) → (rule : ℕ → ℕ) → (n : ℕ) → List ℕ

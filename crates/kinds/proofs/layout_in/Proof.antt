@@ -7,6 +7,7 @@ use native.Mathlib.Omega.{arith}
 use Rattle.kinds.specs.Kinds.{sumBits, roleOf}
 use Rattle.kinds.specs.Rule.{sideOf, spread, layoutOf}
 use Rattle.kinds.specs.declared.Entry.{Entry}
+use Rattle.kinds.proofs.Table.{side-pos}
 use Rattle.kinds.proofs.layout_in.Statement.{statement}
 use Rattle.kinds.proofs.layout_in.Tie as tie
 
@@ -24,7 +25,7 @@ returns : tie.Need-returns
 returns c = c .new .ensures ∙ as-C _ _ _ (c .before .before .if1 .taken) (c .before .sum-bits .ensures)
 
 some : (c : tie.After-side-of) → 0 < c .side-of .result
-some c = subst (λ (p : ℕ). 0 < p) (sym (c .side-of .ensures)) (c .before .before .pre .1)
+some c = subst (λ (p : ℕ). 0 < p) (sym (c .side-of .ensures)) (side-pos _ (c .before .before .pre .0))
 
 new-requires-2 : tie.Need-new-requires-2
 new-requires-2 c κs = some (c .before)

@@ -1,12 +1,11 @@
 -- The line of the table, spread by the role; every line has what a layout must have. Assumes nothing.
 use borrow.Author.Needs.{needs}
 use mathlib.Core.Path.{sym, ap, subst, _∙_}
-use Prim.Native.Nat.{_<_}
 use Rattle.kinds.specs.Kinds.{roleOf, Legal}
-use Rattle.kinds.specs.Rule.{sideOf, layoutOf}
-use Rattle.kinds.specs.Workers.{Laid}
+use Rattle.kinds.specs.Rule.{layoutOf}
+use Rattle.kinds.specs.Workers.{Width, Laid}
 use Rattle.kinds.specs.declared.Entry.{Entry}
-use Rattle.kinds.proofs.Table.{bits-pos, side-pos, sane}
+use Rattle.kinds.proofs.Table.{sane, width}
 use Rattle.kinds.proofs.Layout.of.Statement.{statement}
 use Rattle.kinds.proofs.Layout.of.Tie as tie
 
@@ -16,7 +15,7 @@ legal s = record { low = s .pre .0; high = s .pre .1; role = s .pre .2 }
 layout-in-requires : tie.Need-layout-in-requires
 layout-in-requires c κs =
     let s = c .before in
-    (subst (λ (e : Entry). 0 < e .bits) (sym (c .of .ensures .0)) (bits-pos _ _ (legal s)), subst (λ (e : Entry). 0 < sideOf (e .bits)) (sym (c .of .ensures .0)) (side-pos _ _ (legal s)), s .pre .2)
+    (subst (λ (e : Entry). Width (e .bits)) (sym (c .of .ensures .0)) (width _ (s .pre .0) (s .pre .1)), s .pre .2)
 
 returns : tie.Need-returns
 returns c =
