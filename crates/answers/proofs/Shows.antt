@@ -1,7 +1,7 @@
 -- How a function's returns meet its call: what a proof shows of the tests is linear, so that `omega` proves it from the tests that the code
 -- passed. Assumes nothing.
 use mathlib.Core.Path.{_≡_, refl, sym, ap, ap₂, subst, _∙_}
-use mathlib.Core.Bool.{Bool, true, false, not, _&&_, _||_, false≢true}
+use mathlib.Core.Bool.{Bool, true, false, not, _&&_, _||_, true≢false, false≢true}
 use mathlib.Core.List.{List, [], _∷_}
 use Prim.Native.Nat.{ℕ}
 use native.Mathlib.Omega.{arith}
@@ -99,6 +99,10 @@ module _ {t : Test} {b : Bool} where
 
   pub tells-is : Tells t b → b ≡ holds t
   tells-is r = cases b (λ e. e ∙ sym (shows true t (held r e))) (λ e. e ∙ sym (shows false t (failed r e)))
+
+pub tells : (t : Test) (b : Bool) → b ≡ holds t → Tells t b
+tells t true e = record { bool-right = if-from false t (λ f. true≢false (e ∙ f)) }
+tells t false e = record { bool-right = if-from true t (λ f. false≢true (e ∙ f)) }
 
 -- what a test says, as it came out
 pub denied : (t : Test) → holds t ≡ false → Denies t

@@ -1,3 +1,4 @@
+pub mod Limits
 pub mod ByRule
 pub mod ByTable
 pub mod Promises

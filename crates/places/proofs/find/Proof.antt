@@ -61,12 +61,12 @@ find-spec =
     (tie.spec
     (λ c κs. search needs)
     (λ c κs. search needs)
-    returns
     (λ c κs. search needs)
     (λ c. search needs)
     find-in-requires
     find-in-requires-2
     (λ c. search needs)
+    returns
     returns-2
     returns-3
     returns-4)

@@ -1,56 +1,44 @@
--- The tests that led to a return decide it; lane and element are the entry's digits. Assumes nothing.
+-- The test decides; lane and element are the entry's digits. Assumes nothing.
 use borrow.Author.Needs.{needs}
 use mathlib.Core.Path.{ap, _∙_}
 use Prim.Native.Nat.{_/_}
+use Rattle.answers.proofs.Shows.{replies}
 use Rattle.kinds.specs.declared.Element.{Element}
+use Rattle.places.proofs.Limits.{refused-by, given-by, inside}
 use Rattle.places.proofs.ByTable.{held}
 use Rattle.places.proofs.find_by_table.Statement.{statement}
 use Rattle.places.proofs.find_by_table.Tie as tie
 
 returns : tie.Need-returns
-returns c = search needs
-
-returns-2 : tie.Need-returns-2
-returns-2 c = search needs
+returns c = replies (refused-by (c .before .outside .ensures) (c .if1 .taken) _)
 
 mul-holder-at : tie.Need-mul-holder-at
-mul-holder-at c = search needs
+mul-holder-at c = let in-table = inside (c .before .outside .ensures) (c .if1 .left) in search needs
 
 add-holder-at : tie.Need-add-holder-at
-add-holder-at c = search needs
-
-cast-holder-at : tie.Need-cast-holder-at
-cast-holder-at c = search needs
+add-holder-at c = let in-table = inside (c .before .outside .ensures) (c .if1 .left) in search needs
 
 holder-at-requires : tie.Need-holder-at-requires
-holder-at-requires c κs = search needs
+holder-at-requires c κs = let in-table = inside (c .before .outside .ensures) (c .if1 .left) in search needs
 
-cast-entry : tie.Need-cast-entry
-cast-entry c = search needs
-
-of-requires : tie.Need-of-requires
-of-requires c κs = search needs
-
-returns-3 : tie.Need-returns-3
-returns-3 c =
+returns-2 : tie.Need-returns-2
+returns-2 c =
     let t = c .before .before in
-    record {
-      reply-right = search needs;
-      reply-is =
-          ap (λ (e : Element). (t .holder-at .result / 32, e .0)) (c .before .of .ensures .0 .0)
-          ∙ held _ _ _ (t .before .before .if1 .left) (t .before .if2 .left) (t .holder-at .ensures);
-    }
+    let in-table = inside (t .before .before .outside .ensures) (t .before .if1 .left) in
+    replies (given-by (t .before .before .outside .ensures) (t .before .if1 .left) _ _
+    (ap (λ (e : Element). (t .holder-at .result / 32, e .0)) (c .before .of .ensures .0 .0)
+    ∙ held _ _ _ (in-table .0) (in-table .1) (t .holder-at .ensures)))
 
 pub find-by-table-spec : {M : Type 1} → statement M
 find-by-table-spec =
     tie.close
     (tie.spec
-    returns
-    returns-2
+    (λ c κs. search needs)
     mul-holder-at
     add-holder-at
-    cast-holder-at
+    (λ c. search needs)
     holder-at-requires
-    cast-entry
-    of-requires
-    returns-3)
+    (λ c. search needs)
+    (λ c κs. search needs)
+    returns
+    returns-2)

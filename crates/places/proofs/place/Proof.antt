@@ -41,10 +41,10 @@ place-spec =
     (tie.spec
     (λ c κs. search needs)
     (λ c κs. search needs)
-    returns
     (λ c κs. search needs)
     (λ c. search needs)
     place-in-requires
     (λ c. search needs)
+    returns
     returns-2
     returns-3)
