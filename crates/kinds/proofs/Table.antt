@@ -1,19 +1,21 @@
 -- What holds of every line of the kinds table and every role, by tests that antt computes over the whole table. Assumes nothing.
-use mathlib.Core.Path.{_≡_, refl, subst}
+use mathlib.Core.Path.{_≡_, sym, ap, _∙_}
 use mathlib.Core.Bool.{Bool, true, false, not, _||_, false≢true}
-use Prim.Native.Nat.{ℕ, _+_, _-_, _*_, _/_, _<_, _≤_}
-use native.Mathlib.Decide.{ℕ-discrete}
+use Prim.Native.Nat.{ℕ, _-_, _*_, _/_, _<_, _≤_}
 use native.Mathlib.Omega.{arith}
 use borrow.Author.Tests.{eqb-true, ne-eqb, lt-ltb, le-ltb}
+use lib.ListN.{getD}
 use lib.Dec.{T, leb, eqb, leb→le, eqb→eq}
 use Rattle.laws.specs.Choice.{if_then_else_, _<?_, _=?_}
 use Rattle.laws.proofs.Every.{all, all-at, all₂, all₂-≤, all₂-≡, all₂-true}
-use Rattle.laws.proofs.Choice.{or-right}
+use Rattle.laws.proofs.Choice.{or-right, none-below}
+use Rattle.laws.proofs.Lists.{getD-any}
 use Rattle.answers.specs.Tests.{within, Says, holds}
 use Rattle.answers.proofs.Words.{says}
-use Rattle.kinds.specs.Kinds.{kinds, roles, lineAt, entryOf, roleOf, KnownRole, rows, columns, bits, words, elements, wordBits, bitsAt, columnsAt, elementsAt, rowsAt, wordsAt, oneBitElement, oneBit, integer, Legal}
+use Rattle.kinds.specs.Kinds.{kinds, roles, line, table, named, lineAt, entryOf, roleOf, KnownRole, rows, columns, bits, words, elements, wordBits, bitsAt, columnsAt, elementsAt, rowsAt, wordsAt, oneBitElement, oneBit, integer, Legal}
 use Rattle.kinds.specs.Rule.{sideOf, layoutOf, elementsOf, majors, minors, rowsOf, columnsOf, turn}
-use Rattle.kinds.specs.Workers.{Width, Laid}
+use Rattle.kinds.specs.Workers.{LineAt, Laid}
+use Rattle.kinds.specs.declared.Sided.{Sided}
 use Rattle.kinds.specs.declared.Entry.{Entry}
 use Rattle.kinds.specs.declared.Layout.{Layout}
 
@@ -23,6 +25,16 @@ layoutAt k r = layoutOf (entryOf k) (roleOf r)
 -- every kind has an element
 pub element-pos : (k : ℕ) → 1 ≤ k → k ≤ kinds → 1 ≤ entryOf k .element
 element-pos k low high = leb→le 1 (entryOf k .element) (all-at kinds (λ j. leb 1 (lineAt j .element)) tt (k - 1) (omega arith))
+
+-- what the code has as a kind's line is the table's
+pub line-is : (k : ℕ) (l : Sided) → 1 ≤ k → k ≤ kinds → LineAt (k - 1) l → named (l .0) ≡ entryOf k
+line-is k l low high at =
+    let n = at .number-is (λ o. omega (arith, none-below kinds (k - 1) o)) in
+    ap named (sym (at .line-is) ∙ ap (λ (j : ℕ). getD table j (l .0)) (sym n) ∙ getD-any table (k - 1) (l .0) (line 0 0 0 0 0 0 0 0) (omega arith))
+
+-- some elements stand side by side
+pub side-pos : (k : ℕ) → 1 ≤ k → k ≤ kinds → 0 < sideOf (entryOf k .bits)
+side-pos k low high = leb→le 1 (sideOf (entryOf k .bits)) (all-at kinds (λ j. leb 1 (sideOf (lineAt j .bits))) tt (k - 1) (omega arith))
 
 -- what is tested of the lines whose element lies between two
 where-so : (a b : Bool) → a ≡ true → T (not a || b) → T b
@@ -119,29 +131,3 @@ module _ (k r : ℕ) (ok : Legal k r) where
     narrow-side = narrow-side;
     wide-side = wide-side;
   }
-
--- the width of A and B, by which the code works out how many elements stand side by side
-pub width : (k : ℕ) → 1 ≤ k → k ≤ kinds → Width (entryOf k .bits)
-width k low high = sane k 0 (record { low = low; high = high; role = omega arith }) .width
-
--- 32 by a width, rounded up, is as many elements as stand side by side, by a test over all numbers up to 64
-abbrev fits : ℕ → Bool
-fits b = b =? 64 || b * (32 / b) =? 32
-
-or-true : (a : Bool) → (a || true) ≡ true
-or-true true = refl
-or-true false = refl
-
-width-fits : (b : ℕ) → Width b → Dec (b ≡ 64) → fits b ≡ true
-width-fits b w (yes e) = rw e refl
-width-fits b w (no ne) = rw (w .narrow ne) (or-true (b =? 64))
-
-pub side-is : (b : ℕ) → Width b → 31 / b + 1 ≡ sideOf b
-side-is b w =
-    let le = w .le in
-    eqb→eq (31 / b + 1) (sideOf b)
-    (where-so (fits b) (31 / b + 1 =? sideOf b) (width-fits b w (ℕ-discrete b 64))
-    (all-at 65 (λ b. not (fits b) || 31 / b + 1 =? sideOf b) tt b (omega arith)))
-
-pub side-pos : (b : ℕ) → Width b → 0 < sideOf b
-side-pos b w = subst (λ (p : ℕ). 0 < p) (side-is b w) (omega arith)

@@ -8,9 +8,10 @@ use Rattle.laws.specs.Choice.{if_then_else_, _=?_, NoneBelow}
 use Rattle.answers.specs.Refusals.{Answer, given, refused}
 use Rattle.answers.specs.Calls.{Call}
 use Rattle.kinds.specs.Kinds.{kinds, table, roleA, roleB, roleC, wordBits, entryOf, roleOf}
-use Rattle.kinds.specs.Rule.{layoutOf}
+use Rattle.kinds.specs.Rule.{sideOf, layoutOf}
 use Rattle.kinds.specs.Refusals.{layoutRefusals}
 use Rattle.kinds.specs.declared.Line.{Line}
+use Rattle.kinds.specs.declared.Sided.{Sided}
 use Rattle.kinds.specs.declared.Layout.{Layout}
 use Rattle.kinds.specs.declared.Layouts.{Layouts}
 use Rattle.kinds.specs.declared.Known.{Known}
@@ -24,11 +25,12 @@ abbrev pub standsIn : List Line → Line → ℕ
 standsIn [] l = zero
 standsIn (x ∷ xs) l = if alike l x then zero else suc (standsIn xs l)
 
--- The line at n of the table: it is the line where it stands, and n is where it stands, if what is none of the lines' numbers is the one past
--- the last. In this form the prover closes every branch by computing alone.
-pub record LineAt (n : ℕ) (l : Line) : Type 0 where
-  pub number-is : (NoneBelow kinds n → n ≡ kinds) → n ≡ standsIn table l
-  pub line-is : getD table (standsIn table l) l ≡ l
+-- The line at n of the table, with its side: it is the line where it stands, and n is where it stands, if what is none of the lines' numbers is
+-- the one past the last. In this form the prover closes every branch by computing alone.
+pub record LineAt (n : ℕ) (l : Sided) : Type 0 where
+  pub number-is : (NoneBelow kinds n → n ≡ kinds) → n ≡ standsIn table (l .0)
+  pub line-is : getD table (standsIn table (l .0)) (l .0) ≡ l .0
+  pub side-is : l .1 ≡ sideOf (l .0 .3)
 
 -- the layout of a kind and a role, and the layouts of a kind's A, B and C
 abbrev pub toldLayout : Known → Answer Layout

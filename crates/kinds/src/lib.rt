@@ -5,7 +5,7 @@ ghost use Rattle.answers.specs.Contracts.{Replies};
 ghost use Rattle.kinds.specs.Kinds.{kinds, sumBits, entryOf, roleOf};
 ghost use Rattle.kinds.specs.Places.{wordWithin, lowestBit};
 ghost use Rattle.kinds.specs.Rule.{spread, sideOf, layoutOf};
-ghost use Rattle.kinds.specs.Workers.{LineAt, toldLayout, layoutCall, layoutsOf, Width, Laid};
+ghost use Rattle.kinds.specs.Workers.{LineAt, toldLayout, layoutCall, layoutsOf, Laid};
 use answers::Refusal;
 
 pub mod rule;
@@ -89,31 +89,35 @@ pub struct Line(
     pub u16,
 );
 
+// The same, and how many elements stand side by side in its A and B: as many as a word holds, or one where an element takes two words.
+pub struct Sided(pub Line, pub u16);
+
 // The table, a line a kind. The lines stand in branches of a `match`, which the compiler lays into constant memory: a constant array it would
-// write out anew at each look. No kind has the last one; its bits are not 0, or the compiler would test the bits of each line for 0.
-fn line_at(number: usize) -> Line
+// write out anew at each look. That the sides are constants shows it that they are powers of two, so that it divides by none. No kind has the
+// last line.
+fn line_at(number: usize) -> Sided
     ensures { λ r. ⌜ LineAt number r ⌝ }
 {
     match number {
-        0 => Line(8, 8, 128, 1, Entry::ONE_BIT, 1, 1, 2),
-        1 => Line(16, 8, 16, 8, Entry::INT8, 2, 1, 4),
-        2 => Line(16, 8, 32, 8, Entry::INT8, 4, 2, 4),
-        3 => Line(16, 8, 32, 4, Entry::INT4, 2, 1, 4),
-        4 => Line(16, 8, 64, 4, Entry::INT4, 4, 2, 4),
-        5 => Line(16, 8, 8, 16, Entry::F16, 2, 1, 4),
-        6 => Line(16, 8, 8, 16, Entry::F16_SUMS, 2, 1, 2),
-        7 => Line(16, 8, 8, 32, Entry::TF32, 4, 2, 4),
-        8 => Line(16, 8, 8, 64, Entry::F64, 8, 4, 8),
-        9 => Line(8, 8, 4, 64, Entry::F64, 2, 2, 4),
-        10 => Line(8, 8, 16, 8, Entry::INT8, 1, 1, 2),
-        11 => Line(8, 8, 32, 4, Entry::INT4, 1, 1, 2),
-        12 => Line(16, 8, 128, 1, Entry::ONE_BIT, 2, 1, 4),
-        13 => Line(16, 8, 256, 1, Entry::ONE_BIT, 4, 2, 4),
-        _ => Line(0, 0, 0, 1, Entry::ONE_BIT, 0, 0, 0),
+        0 => Sided(Line(8, 8, 128, 1, Entry::ONE_BIT, 1, 1, 2), 32),
+        1 => Sided(Line(16, 8, 16, 8, Entry::INT8, 2, 1, 4), 4),
+        2 => Sided(Line(16, 8, 32, 8, Entry::INT8, 4, 2, 4), 4),
+        3 => Sided(Line(16, 8, 32, 4, Entry::INT4, 2, 1, 4), 8),
+        4 => Sided(Line(16, 8, 64, 4, Entry::INT4, 4, 2, 4), 8),
+        5 => Sided(Line(16, 8, 8, 16, Entry::F16, 2, 1, 4), 2),
+        6 => Sided(Line(16, 8, 8, 16, Entry::F16_SUMS, 2, 1, 2), 2),
+        7 => Sided(Line(16, 8, 8, 32, Entry::TF32, 4, 2, 4), 1),
+        8 => Sided(Line(16, 8, 8, 64, Entry::F64, 8, 4, 8), 1),
+        9 => Sided(Line(8, 8, 4, 64, Entry::F64, 2, 2, 4), 1),
+        10 => Sided(Line(8, 8, 16, 8, Entry::INT8, 1, 1, 2), 4),
+        11 => Sided(Line(8, 8, 32, 4, Entry::INT4, 1, 1, 2), 8),
+        12 => Sided(Line(16, 8, 128, 1, Entry::ONE_BIT, 2, 1, 4), 32),
+        13 => Sided(Line(16, 8, 256, 1, Entry::ONE_BIT, 4, 2, 4), 32),
+        _ => Sided(Line(0, 0, 0, 32, 0, 0, 0, 0), 1),
     }
 }
 
-// The same with its columns named.
+// A line with its columns named.
 pub struct Entry {
     pub m: u16,
     pub n: u16,
@@ -161,7 +165,7 @@ impl Entry {
         ensures is { λ r. ⌜ r ≡ entryOf (kind .0) ⌝ }
         ensures element { λ r. ⌜ (r .element ≡ entryOf (kind .0) .element) × (1 ≤ r .element) ⌝ }
     {
-        let line = line_at((kind.0 - 1) as usize);
+        let line = line_at((kind.0 - 1) as usize).0;
         Entry {
             m: line.0,
             n: line.1,
@@ -208,24 +212,23 @@ impl Layout {
     }
 }
 
-// The elements that stand side by side in A and B: as many as a word holds, or one where an element takes two words. That is 32 by bits, rounded
-// up: no test, which the compiler would make of a line's constants into a jump for each kind.
-fn side_of(bits: u16) -> u16
-    requires { ⌜ Width bits ⌝ }
-    ensures { λ r. ⌜ r ≡ sideOf bits ⌝ }
+// The elements that stand side by side in A and B of a kind.
+fn side_of(kind: Kind) -> u16
+    requires { ⌜ (1 ≤ kind .0) × (kind .0 ≤ kinds) ⌝ }
+    ensures is { λ r. ⌜ r ≡ sideOf (entryOf (kind .0) .bits) ⌝ }
+    ensures some { λ r. ⌜ 0 < r ⌝ }
 {
-    31 / bits + 1
+    line_at((kind.0 - 1) as usize).1
 }
 
-fn layout_in(e: Entry, role: Role) -> Layout
-    requires { ⌜ Width (e .bits) × (role .0 ≤ 2) ⌝ }
+fn layout_in(e: Entry, side: u16, role: Role) -> Layout
+    requires { ⌜ (0 < side) × (side ≡ sideOf (e .bits)) × (role .0 ≤ 2) ⌝ }
     ensures { λ r. ⌜ r ≡ layoutOf e (roleOf (role .0)) ⌝ }
 {
     let r = role.0;
     if r == Role::C {
         return Layout::new(Entry::sum_bits(e.element), e.c, 2, e.m, e.n, false);
     }
-    let side = side_of(e.bits);
     if r == Role::B {
         return Layout::new(e.bits, e.b, side, e.n, e.k, true);
     }
@@ -240,7 +243,8 @@ impl Layout {
         ensures laid { λ r. ⌜ Laid r ⌝ }
     {
         let e = Entry::of(kind);
-        layout_in(e, role)
+        let side = side_of(kind);
+        layout_in(e, side, role)
     }
 }
 
@@ -257,9 +261,10 @@ impl Layouts {
         ensures { λ r. ⌜ r ≡ layoutsOf (kind .0) ⌝ }
     {
         let e = Entry::of(kind);
-        let a = layout_in(e, Role(Role::A));
-        let b = layout_in(e, Role(Role::B));
-        let c = layout_in(e, Role(Role::C));
+        let side = side_of(kind);
+        let a = layout_in(e, side, Role(Role::A));
+        let b = layout_in(e, side, Role(Role::B));
+        let c = layout_in(e, side, Role(Role::C));
         Layouts { a, b, c }
     }
 }
