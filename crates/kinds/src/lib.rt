@@ -90,7 +90,7 @@ pub struct Line(
 );
 
 // The same, and how many elements stand side by side in its A and B: as many as a word holds, or one where an element takes two words.
-pub struct Sided(pub Line, pub u16);
+struct Sided(Line, u16);
 
 // The table, a line a kind. The lines stand in branches of a `match`, which the compiler lays into constant memory: a constant array it would
 // write out anew at each look. That the sides are constants shows it that they are powers of two, so that it divides by none. No kind has the
