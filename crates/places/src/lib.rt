@@ -30,7 +30,8 @@ pub enum Held {
     Refused(Refusal),
 }
 
-// Whether a lane or an element is past the last. The bits of a lane's words tell the elements: to work out the spans would cost a division.
+// Whether a lane or an element is past the last. The bits of a lane's words, which the table has, tell the elements: the spans would have to be
+// worked out.
 fn element_outside(f: Layout, lane: Lane, element: Element) -> bool
     requires { ⌜ Laid f ⌝ }
     ensures { λ r. ⌜ Tells (elementOutside (elementsOf f) (lane .0) (element .0)) r ⌝ }
