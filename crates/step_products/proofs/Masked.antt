@@ -13,7 +13,7 @@ use lib.ListN.{length, getD}
 use lib.Pow.{pow-pos}
 use Rattle.laws.specs.Fields.{field, joined}
 use Rattle.laws.specs.Lists.{blocks}
-use Rattle.laws.specs.Toward.{Brings, Below, At, stores}
+use Rattle.laws.specs.Toward.{Alike, Brings, Below, At, stores}
 use Rattle.laws.proofs.Fields.{field-joined}
 use Rattle.laws.proofs.Lists.{getD-tab}
 use Rattle.laws.proofs.Toward.{brings-on, brings-stores}
@@ -44,7 +44,7 @@ module _ (f : Layout) (mask : ℕ) (ws : List ℕ) where
   entry x y = xorIn f mask ws (laneOf (f .side) x y) (elementOf (f .side) (f .halves) x y)
 
   -- the masked matrix at a major and a minor number
-  masked-entry : (x y : ℕ) → x < majors f → y < minors f → getD (masked f mask ws) (x * minors f + y) 0 ≡ entry x y
+  pub masked-entry : (x y : ℕ) → x < majors f → y < minors f → getD (masked f mask ws) (x * minors f + y) 0 ≡ entry x y
   unfolding masked
   masked-entry x y hx hy =
       getD-tab (majors f * minors f) (blocks (minors f) entry) (x * minors f + y) 0 (digits-lt hx hy)
@@ -122,13 +122,17 @@ module _ (f : Layout) (mask : ℕ) (ws out : List ℕ) (ok : Digitised f ws out)
           ∙ sym (masked-at f mask ws (ok .laid) (ok .straight) lane (r * f .side + j) hl (element-in j hj))
           ∙ ap (λ (x : ℕ). getD (masked f mask ws) x 0) (sym (at j hj))
 
--- a buffer with every stretch of every quad has the digits
+-- a buffer that holds the masked matrix has the digits
+pub digits-held : (f : Layout) (mask offset : ℕ) (ws ys : List ℕ) → Laid f → mask ≡ joined (f .bits) (f .side) (λ j. offset) → (offset ≡ 0) ⊎ (offset ≡ 2 ^ (f .bits - 1))
+    → ((z : ℕ) → z < majors f * minors f → Alike (masked f mask ws) ys z) → Digits f offset ws ys
+digits-held f mask offset ws ys ok e sign alike x y hx hy =
+    alike (x * minors f + y) (digits-lt hx hy) ∙ masked-entry f mask ws x y hx hy ∙ masked-digit f mask ws offset ok e sign x y
+
+-- and so has one with every stretch of every quad
 pub digits-all : (f : Layout) (mask offset : ℕ) (ws xs ys : List ℕ) → Digitised f ws xs → mask ≡ joined (f .bits) (f .side) (λ j. offset) → (offset ≡ 0) ⊎ (offset ≡ 2 ^ (f .bits - 1))
     → Brings (masked f mask ws) (Below (stretchesOf f) (λ r. Below 8 (OfQuad f (f .side) r))) xs ys → Digits f offset ws ys
-digits-all f mask offset ws xs ys ok e sign b x y hx hy =
-    let z = x * minors f + y in
-    let n : sizeOf f ≡ f .side = narrow-size f (omega (arith, ok .narrow)) in
-    let covered = place-covered f (ok .laid) z (subst (λ (n : ℕ). z < n) (sym (size-is f (ok .straight))) (digits-lt hx hy)) in
-    b .puts z (subst (λ (n : ℕ). Below (stretchesOf f) (λ r. Below 8 (OfQuad f n r)) z) n covered)
-    ∙ masked-entry f mask ws x y hx hy
-    ∙ masked-digit f mask ws offset (ok .laid) e sign x y
+digits-all f mask offset ws xs ys ok e sign b =
+    digits-held f mask offset ws ys (ok .laid) e sign
+    (λ z h.
+    let covered = place-covered f (ok .laid) z (subst (λ (n : ℕ). z < n) (sym (size-is f (ok .straight))) h) in
+    b .puts z (subst (λ (n : ℕ). Below (stretchesOf f) (λ r. Below 8 (OfQuad f n r)) z) (narrow-size f (omega (arith, ok .narrow))) covered))

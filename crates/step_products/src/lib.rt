@@ -82,7 +82,7 @@ fn exact(s: Dot, n: usize, h: Offsets) -> Split
     }
 }
 
-fn word(x: u32) -> u64
+pub fn word(x: u32) -> u64
     ensures { λ r. ⌜ r ≡ x ⌝ }
 {
     x as u64
@@ -103,7 +103,7 @@ fn mask_of(bits: usize, side: usize, offset: u64) -> u32
 }
 
 // The fields of a word, from base on.
-fn digits_of(out: &mut [u8; 1024], word: u64, bits: usize, side: usize, base: usize)
+pub fn digits_of(out: &mut [u8; 1024], word: u64, bits: usize, side: usize, base: usize)
     requires { ⌜ (bits * side ≤ 32) × (bits ≤ 8) × (side ≤ 32) × (base + side ≤ 1024) × (length (now out) ≡ 1024) ⌝ }
     ensures { λ _. ⌜ now (out .exit) ≡ stores base 1 side (λ j. field bits j word) (now (out .entry)) ⌝ }
 {

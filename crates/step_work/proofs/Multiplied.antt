@@ -1,15 +1,18 @@
 -- The sums over digits are the sums of the products of A's row and B's column. Assumes nothing.
 use mathlib.Core.Path.{_≡_, refl, sym, ap, ap₂, subst, _∙_}
+use mathlib.Core.Bool.{Bool, true, false}
 use mathlib.Core.List.{List}
 use Prim.Native.Nat.{ℕ, _+_, _-_, _*_, _/_, _%_, _^_, _<_, _≤_}
 use native.Mathlib.Nat.{div-lt-iff-lt-mul, mod-lt}
 use native.Mathlib.Omega.{arith}
 use lib.ListN.{length, getD}
+use lib.Pow.{pow-pos}
 use Rattle.laws.specs.Lists.{tab, blocks}
 use Rattle.laws.proofs.Lists.{tab-ext}
 use Rattle.kinds.specs.Kinds.{lanes, entryOf, integer}
 use Rattle.kinds.specs.Rule.{majors, minors, major, minor}
 use Rattle.kinds.specs.Workers.{Laid, layoutsOf}
+use Rattle.kinds.specs.declared.Layout.{Layout}
 use Rattle.kinds.specs.declared.Layouts.{Layouts}
 use Rattle.kinds.proofs.Digits.{major-lt, minor-lt}
 use Rattle.kinds.proofs.Table.{not-one-bit, layoutAt, sane}
@@ -21,6 +24,7 @@ use Rattle.step_products.specs.declared.Offsets.{Offsets}
 use Rattle.buffers.proofs.Elements.{element-lt}
 use Rattle.step_products.proofs.OffsetDots.{dot-digits, offset-ext}
 use Rattle.step_products.proofs.Signs.{doubled}
+use Rattle.step_nibbles.specs.Planes.{Nibbled}
 use Rattle.answers.specs.Tests.{Says}
 use Rattle.step_work.proofs.Matrices.{entry-A, entry-B, entry-C, stepped-is, legal, depth-is, depth-small, pairs, bits-pos, bits-le, columns-half, halves-pos, words-pos, room-A, room-B, halves-le}
 
@@ -90,6 +94,13 @@ module _ (k signs mode : ℕ) (ok : Ready k signs mode) (two : Says (integer k))
         (λ x l. word-is (x / entryOf k .c) (x % entryOf k .c) (div-lt-iff-lt-mul (words-pos k (ok .of)) .1 l) (mod-lt x (words-pos k (ok .of))))
         ∙ sym (stepped-is k (ok .of) signs mode a b c)
 
+-- a digit of four bits is below 16
+digit-small : (f : Layout) (offset : ℕ) (ws out : List ℕ) → f .bits ≡ 4 → Digits f offset ws out → (x y : ℕ) → x < majors f → y < minors f → getD out (x * minors f + y) 0 < 16
+unfolding digitAt
+digit-small f offset ws out four d x y hx hy =
+    subst (λ (v : ℕ). v < 16) (sym (d x y hx hy))
+    (subst (λ (n : ℕ). digitAt (f .bits) (f .words) (f .side) (f .halves) offset ws x y < n) (ap (λ (b : ℕ). 2 ^ b) four) (mod-lt _ (pow-pos (f .bits))))
+
 module _ (k signs mode : ℕ) (ok : Ready k signs mode) (two : Says (integer k)) (l : Layouts) (el : l ≡ layoutsOf k) where
   -- the words of D, by the layouts and the offsets that the code has
   pub multiplied : (a b c xs ys : List ℕ) (h : Offsets) → ((x : ℕ) → getD c x 0 < 2 ^ 32)
@@ -129,3 +140,33 @@ module _ (k signs mode : ℕ) (ok : Ready k signs mode) (two : Says (integer k))
         of-c = lc ∙ rw el refl;
         of-d = ld ∙ rw el refl;
       }
+
+  -- and of the digits, where they have four bits
+  pub nibbled : (a b xs ys : List ℕ) (h : Offsets) → l .a .bits ≡ 4
+      → h .a ≡ offsetOf (unsignedA signs) (2 ^ (l .a .bits - 1)) → h .b ≡ offsetOf (unsignedB signs) (2 ^ (l .a .bits - 1))
+      → Digits (l .a) (h .a) a xs → Digits (l .b) (h .b) b ys → Nibbled l h xs ys
+  nibbled a b xs ys h four eu ev dx dy =
+      let n = numbers in
+      record {
+        side = n .0 .narrow-side (omega (arith, four)) ∙ ap (λ (b : ℕ). 32 / b) four;
+        spans-pos = n .0 .spans-pos;
+        offset-a = small-offset (unsignedA signs) (eu ∙ ap (λ (b : ℕ). offsetOf (unsignedA signs) (2 ^ (b - 1))) four);
+        offset-b = small-offset (unsignedB signs) (ev ∙ ap (λ (b : ℕ). offsetOf (unsignedB signs) (2 ^ (b - 1))) four);
+        rows = λ row hr kk hk. digit-small (l .a) (h .a) a xs four dx row kk (subst (λ (n : ℕ). row < n * 8) halves-A hr) hk;
+        columns = λ column hc kk hk.
+            subst (λ (n : ℕ). getD ys (column * n + kk) 0 < 16) (sym minors-B)
+            (digit-small (l .b) (h .b) b ys (n .4 ∙ four) dy column kk (omega (arith, halves-B)) (subst (λ (n : ℕ). kk < n) minors-B hk));
+      }
+    where
+      small-offset : {o : ℕ} (unsigned : Bool) → o ≡ offsetOf unsigned 8 → o < 16
+      small-offset true e = omega (arith, e)
+      small-offset false e = omega (arith, e)
+
+      halves-A : l .c .halves ≡ l .a .halves
+      halves-A = rw el refl
+
+      halves-B : l .b .halves ≡ 1
+      halves-B = rw el (columns-half k (ok .of))
+
+      minors-B : minors (l .a) ≡ minors (l .b)
+      minors-B = rw el refl

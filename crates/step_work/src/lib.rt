@@ -45,7 +45,7 @@ fn offset(unsigned: bool, bits: usize) -> u64
     1 << (bits - 1)
 }
 
-// The integer kinds: A by rows and B by columns are unpacked once, into digits.
+// The integer kinds: A by rows and B by columns are unpacked once, into digits. Of four bits the products are formed by shifts.
 fn multiply(kind: Kind, signs: Signs, mode: Mode, a: &[u32], b: &[u32], c: &[u32], d: &mut [u32])
     requires { ⌜ Ready (kind .0) (signs .0) (mode .0) × Says (integer (kind .0)) ⌝ }
     requires { ⌜ Sized (kind .0) (length (now a)) (length (now b)) (length (now c)) (length (now d)) ⌝ }
@@ -63,6 +63,12 @@ fn multiply(kind: Kind, signs: Signs, mode: Mode, a: &[u32], b: &[u32], c: &[u32
     };
     let mut x: [u8; 1024] = [0; 1024];
     let mut y: [u8; 1024] = [0; 1024];
+    if f.bits == 4 {
+        step_nibbles::digits(a, &mut x, f, ha);
+        step_nibbles::digits(b, &mut y, g, hb);
+        step_nibbles::cells(l, mode, h, &x, &y, c, d);
+        return;
+    }
     step_products::digits(a, &mut x, f, ha);
     step_products::digits(b, &mut y, g, hb);
     step_products::cells(l, mode, h, &x, &y, c, d);

@@ -9,7 +9,7 @@ use Rattle.laws.specs.Toward.{Brings, Below, At}
 use Rattle.laws.proofs.Toward.{brings-none, brings-more, brings-all}
 use Rattle.kinds.specs.Kinds.{lanes}
 use Rattle.step_products.specs.Sums.{digitsWords}
-use Rattle.step_products.proofs.Worded.{words-length, lane-covered}
+use Rattle.step_products.proofs.Worded.{words-length, lane-covered, still-summable}
 use Rattle.step_products.proofs.cells.Statement.{statement}
 use Rattle.step_products.proofs.cells.Tie as tie
 
@@ -34,21 +34,8 @@ cast-t13 c = let i = c .before in omega (arith, i .loop-test .taken)
 lane-cells-requires : tie.Need-lane-cells-requires Inv-loop μ-loop
 lane-cells-requires c κs =
     let i = c .before in
-    let p = i .before .before .before .before .pre in (
-      record {
-        mode-le = p .mode-le;
-        spans-le = p .spans-le;
-        deep = p .deep;
-        offset-a = p .offset-a;
-        offset-b = p .offset-b;
-        halves-pos = p .halves-pos;
-        halves-le = p .halves-le;
-        pairs = p .pairs;
-        of-c = p .of-c;
-        of-d = i .before .loop .inv .1 .same ∙ p .of-d;
-      },
-      i .loop-test .taken,
-    )
+    let s = i .before .before .before .before in
+    (still-summable (s .args .l) (s .args .mode .0) (s .args .h) (now (s .args .c)) (now (s .args .d)) (i .before .loop .d) (s .pre) (i .before .loop .inv .1 .same), i .loop-test .taken)
 
 add-lane : tie.Need-add-lane Inv-loop μ-loop
 add-lane c = let i = c .before .before .before .before in omega (arith, i .loop-test .taken)

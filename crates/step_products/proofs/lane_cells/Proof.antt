@@ -1,6 +1,6 @@
 -- Each turn brings one word more of the lane. Assumes nothing.
 use borrow.Author.Needs.{needs}
-use mathlib.Core.Path.{_≡_, subst}
+use mathlib.Core.Path.{_≡_, sym, subst, _∙_}
 use mathlib.Core.List.{List}
 use Prim.Native.Nat.{ℕ, _+_, _*_, _-_, _<_, _≤_}
 use native.Mathlib.Omega.{arith}
@@ -13,7 +13,7 @@ use Rattle.kinds.specs.Rule.{minor, minors}
 use Rattle.kinds.specs.declared.Layout.{Layout}
 use Rattle.kinds.proofs.Digits.{minor-lt}
 use Rattle.step_products.specs.Sums.{digitsWords}
-use Rattle.step_products.proofs.Worded.{wordsBy, word-is}
+use Rattle.step_products.proofs.Worded.{wordsBy, word-at, digits-word}
 use Rattle.step_products.proofs.lane_cells.Statement.{statement}
 use Rattle.step_products.proofs.lane_cells.Tie as tie
 
@@ -135,8 +135,9 @@ loop-again c =
     let a = s .args in
     let l = i .before .loop in
     let v =
-    word-is (g s) (n s) (a .mode .0) (a .h) (now (a .x)) (now (a .y)) (now (a .c)) (lane i) (l .i) (s .pre .1) (i .loop-test .taken) (c .before .before .before .before .before .dot-of .result) (c .before .before .before .before .exact .result)
-    (c .before .before .before .before .before .before .before .across .ensures .0) (c .before .before .before .before .before .before .along .ensures .0) (c .before .before .before .before .before .dot-of .ensures) (c .before .before .before .before .exact .ensures .0) (c .limited .ensures) in
+    digits-word (a .mode .0) (n s) (g s .words) (g s .halves) (a .h) (now (a .x)) (now (a .y)) (now (a .c)) (lane i) (l .i) (c .before .before .before .before .before .dot-of .result) (c .before .before .before .before .exact .result)
+    (c .before .before .before .before .before .before .before .across .ensures .0) (c .before .before .before .before .before .before .along .ensures .0) (c .before .before .before .before .before .dot-of .ensures) (c .before .before .before .before .exact .ensures .0) (c .limited .ensures)
+    ∙ sym (word-at (g s) (n s) (a .mode .0) (a .h) (now (a .x)) (now (a .y)) (now (a .c)) (lane i) (l .i) (s .pre .1) (i .loop-test .taken)) in
     let k = lane i * g s .words + l .i in
     let at : k < length (l .d) = omega (arith, word-in i, l .inv .1 .same, s .pre .0 .of-d) in
     (omega (arith, i .loop-test .taken), brings-more (u s) (Words (g s) (lane i)) (l .i) (now (a .d)) (l .d) _ (l .inv .1) (brings-set (u s) (l .d) k (c .limited .result) at v))

@@ -1,0 +1,36 @@
+-- The sums are those of the crate step_products, with each product by shifts. Assumes nothing.
+use borrow.Author.Needs.{needs}
+use mathlib.Core.Path.{_≡_, ap, ap₂, _∙_}
+use Prim.Native.Nat.{ℕ, _+_, _*_, _≤_}
+use native.Mathlib.Nat.{mul-assoc, mul-comm}
+use native.Mathlib.Omega.{arith}
+use Rattle.step_nibbles.proofs.exact.Statement.{statement}
+use Rattle.step_nibbles.proofs.exact.Tie as tie
+
+returns : tie.Need-returns
+returns c =
+    let t = c .before .before .before .before in
+    let u = c .before .before .before in
+    let s = t .before .args in (
+      (
+        ap (λ (z : ℕ). s .s .products + z) (u .times2 .ensures .0 ∙ ap (λ (z : ℕ). z * s .h .b) (t .times .ensures .0) ∙ mul-assoc (s .n) (s .h .a) (s .h .b)),
+        ap₂ _+_ (c .before .times3 .ensures .0 ∙ mul-comm (s .s .b) (s .h .a)) (c .times4 .ensures .0 ∙ mul-comm (s .s .a) (s .h .b)),
+      ),
+      (
+        omega (arith, t .before .pre, t .times .ensures .1, u .times2 .ensures .1),
+        omega (arith, t .before .pre, c .before .times3 .ensures .1, c .times4 .ensures .1),
+      ),
+    )
+
+pub exact-spec : {M : Type 1} → statement M
+exact-spec =
+    tie.close
+    (tie.spec
+    (λ c. search needs)
+    (λ c κs. search needs)
+    (λ c κs. search needs)
+    (λ c. search needs)
+    (λ c κs. search needs)
+    (λ c κs. search needs)
+    (λ c. search needs)
+    returns)
