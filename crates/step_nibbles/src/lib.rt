@@ -73,12 +73,9 @@ fn word_at(spans: usize, halves: usize, t: usize) -> usize
 {
     let group = t / Lane::QUAD;
     let major = kinds::rule::quotient(spans, group);
+    let span = kinds::rule::remainder(spans, group);
     let lane = major % 8 * Lane::QUAD + t % Lane::QUAD;
-    scaled(
-        halves,
-        scaled(spans, lane) + kinds::rule::remainder(spans, group),
-    )
-        + major / 8
+    scaled(halves, scaled(spans, lane) + span) + major / 8
 }
 
 // The word whose every field of four bits is the offset.
@@ -220,9 +217,12 @@ fn exact(s: Dot, n: usize, h: Offsets) -> Split
     ensures is { λ r. ⌜ (r .plus ≡ s .products + n * (h .a * h .b)) × (r .minus ≡ h .a * s .b + h .b * s .a) ⌝ }
     ensures small { λ r. ⌜ (r .plus ≤ 8388608) × (r .minus ≤ 8388608) ⌝ }
 {
+    let corner = times(times(n as u32, h.a), h.b);
+    let of_a = times(s.a, h.b);
+    let of_b = times(s.b, h.a);
     Split {
-        plus: s.products + times(times(n as u32, h.a), h.b),
-        minus: times(s.b, h.a) + times(s.a, h.b),
+        plus: s.products + corner,
+        minus: of_b + of_a,
     }
 }
 

@@ -9,17 +9,16 @@ use Rattle.step_nibbles.proofs.exact.Tie as tie
 
 returns : tie.Need-returns
 returns c =
+    let of-b = c .before .times4 in
+    let of-a = c .before .before .times3 in
+    let corner = c .before .before .before .times2 in
     let t = c .before .before .before .before in
-    let u = c .before .before .before in
     let s = t .before .args in (
       (
-        ap (λ (z : ℕ). s .s .products + z) (u .times2 .ensures .0 ∙ ap (λ (z : ℕ). z * s .h .b) (t .times .ensures .0) ∙ mul-assoc (s .n) (s .h .a) (s .h .b)),
-        ap₂ _+_ (c .before .times3 .ensures .0 ∙ mul-comm (s .s .b) (s .h .a)) (c .times4 .ensures .0 ∙ mul-comm (s .s .a) (s .h .b)),
+        ap (λ (z : ℕ). s .s .products + z) (corner .ensures .0 ∙ ap (λ (z : ℕ). z * s .h .b) (t .times .ensures .0) ∙ mul-assoc (s .n) (s .h .a) (s .h .b)),
+        ap₂ _+_ (of-b .ensures .0 ∙ mul-comm (s .s .b) (s .h .a)) (of-a .ensures .0 ∙ mul-comm (s .s .a) (s .h .b)),
       ),
-      (
-        omega (arith, t .before .pre, t .times .ensures .1, u .times2 .ensures .1),
-        omega (arith, t .before .pre, c .before .times3 .ensures .1, c .times4 .ensures .1),
-      ),
+      (omega (arith, t .before .pre, t .times .ensures .1, corner .ensures .1), omega (arith, t .before .pre, of-a .ensures .1, of-b .ensures .1)),
     )
 
 pub exact-spec : {M : Type 1} → statement M
@@ -29,8 +28,8 @@ exact-spec =
     (λ c. search needs)
     (λ c κs. search needs)
     (λ c κs. search needs)
+    (λ c κs. search needs)
+    (λ c κs. search needs)
     (λ c. search needs)
-    (λ c κs. search needs)
-    (λ c κs. search needs)
     (λ c. search needs)
     returns)
