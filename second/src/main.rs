@@ -24,8 +24,8 @@ mod wazimroot;
 
 use calls::Rules;
 use compare::{
-    fragments, lengths, orders, places, probes, runs, scales, steps, tables, templates, trips,
-    Bench,
+    fragments, lengths, orders, places, probes, products, runs, scales, steps, tables, templates,
+    trips, Bench,
 };
 use random::Random;
 use report::{Difference, Tally};
@@ -71,7 +71,7 @@ fn arguments() -> Option<(Part, u64, u64)> {
 type Comparison = fn(&mut Bench) -> Result<Tally, Difference>;
 
 /// In such an order that the long ones fall to both parts of two.
-const COMPARISONS: [Comparison; 19] = [
+const COMPARISONS: [Comparison; 20] = [
     |bench| figures::figures(bench.library, bench.rules),
     places::wz_place,
     places::wz_find,
@@ -80,6 +80,7 @@ const COMPARISONS: [Comparison; 19] = [
     steps::wz_step,
     steps::wz_plain_step,
     steps::extremes,
+    products::products,
     runs::wz_open,
     runs::wz_feed,
     runs::wz_read,

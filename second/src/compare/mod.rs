@@ -7,6 +7,7 @@ pub mod orders;
 pub mod places;
 mod plan;
 pub mod probes;
+pub mod products;
 pub mod runs;
 pub mod scales;
 pub mod steps;
