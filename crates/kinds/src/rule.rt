@@ -1,12 +1,13 @@
 // The one rule over the elements side by side and the halves: lane and element to the major and the minor number, and back.
 ghost use mathlib.Core.Path.{_≡_};
-ghost use Prim.Native.Nat.{_/_, _%_, _<_, _≤_};
+ghost use Prim.Native.Nat.{_*_, _/_, _%_, _<_, _≤_};
 ghost use Rattle.kinds.specs.Kinds.{lanes};
 ghost use Rattle.kinds.specs.Rule.{major, minor, laneOf, elementOf};
 use crate::Element;
 use crate::Lane;
 
-// What is left of n, and how often it goes, where a layout takes things by ones or twos: neither costs a division.
+// What is left of n, how often it goes, and so many times n, where a layout takes things by ones or twos: none costs a division or a
+// multiplication.
 pub fn remainder(by: usize, n: usize) -> usize
     requires { ⌜ (0 < by) × (by ≤ 2) ⌝ }
     ensures { λ r. ⌜ r ≡ n % by ⌝ }
@@ -25,6 +26,16 @@ pub fn quotient(by: usize, n: usize) -> usize
         return n;
     }
     n / 2
+}
+
+pub fn multiple(by: usize, n: usize) -> usize
+    requires { ⌜ (0 < by) × (by ≤ 2) × (n ≤ 65536) ⌝ }
+    ensures { λ r. ⌜ (r ≡ n * by) × (r ≤ 2 * n) ⌝ }
+{
+    if by == 1 {
+        return n;
+    }
+    n * 2
 }
 
 // The major and the minor number of an element.

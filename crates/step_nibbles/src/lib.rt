@@ -1,17 +1,15 @@
 // The four-bit kinds, with no multiplication: a product of two digits is a term for each bit of B's, shifted by the bit's weight. The bits of B's
-// digits are laid out as four planes; under each of them A's digits are added, sixteen to a byte, and the four sums are shifted and added.
+// digits are laid out as four planes; under each of them A's digits are added, and the four sums are shifted and added. The exact sum is that of
+// step_products, and so is what its digits are.
 ghost use mathlib.Core.Path.{_≡_};
 ghost use mathlib.Core.Logic.{_⊎_};
 ghost use Prim.Native.Nat.{_+_, _*_, _-_, _/_, _%_, _^_, _<_, _≤_};
-ghost use lib.Bits.{bitAnd};
 ghost use lib.ListN.{length, getD};
-ghost use Rattle.laws.specs.Bits.{sumN};
 ghost use Rattle.laws.specs.Fields.{joined};
-ghost use Rattle.laws.specs.Lists.{fills};
 ghost use Rattle.kinds.specs.Kinds.{lanes};
-ghost use Rattle.kinds.specs.Rule.{minors, laneOf, elementOf};
+ghost use Rattle.kinds.specs.Rule.{minors};
 ghost use Rattle.step_products.specs.Sums.{Dots, straight, Digits, Digitised, Summable, digitsWord, digitsWords};
-ghost use Rattle.step_nibbles.specs.Planes.{spreadBit, Planes, Small, Nibbled};
+ghost use Rattle.step_nibbles.specs.Planes.{Planes, Small, Nibbled};
 use kinds::Element;
 use kinds::Lane;
 use kinds::Layout;
@@ -21,62 +19,8 @@ use step_products::Dot;
 use step_products::Offsets;
 use step_products::Split;
 
-// Four numbers by the weights of a digit's bits.
-fn weighed(ones: u32, twos: u32, fours: u32, eights: u32) -> u32
-    requires { ⌜ (ones ≤ 16777216) × (twos ≤ 16777216) × (fours ≤ 16777216) × (eights ≤ 16777216) ⌝ }
-    ensures { λ r. ⌜ r ≡ ones + 2 * twos + 4 * fours + 8 * eights ⌝ }
-{
-    ones + (twos << 1) + (fours << 2) + (eights << 3)
-}
-
-// x, where y has bit i.
-fn under(x: u32, y: u32, i: u32) -> u32
-    requires { ⌜ i < 4 ⌝ }
-    ensures { λ r. ⌜ (r ≡ x * (y / 2 ^ i % 2)) × (r ≤ x) ⌝ }
-{
-    if (y >> i) % 2 == 1 {
-        return x;
-    }
-    0
-}
-
-// A product, by the four bits of y.
-fn times(x: u32, y: u32) -> u32
-    requires { ⌜ (x ≤ 16777216) × (y < 16) ⌝ }
-    ensures is { λ r. ⌜ r ≡ x * y ⌝ }
-    ensures small { λ r. ⌜ r ≤ 15 * x ⌝ }
-{
-    weighed(
-        under(x, y, 0),
-        under(x, y, 1),
-        under(x, y, 2),
-        under(x, y, 3),
-    )
-}
-
-// n by ones or by twos.
-fn scaled(by: usize, n: usize) -> usize
-    requires { ⌜ (0 < by) × (by ≤ 2) × (n ≤ 65536) ⌝ }
-    ensures { λ r. ⌜ (r ≡ n * by) × (r ≤ 2 * n) ⌝ }
-{
-    if by == 1 {
-        return n;
-    }
-    n << 1
-}
-
-// Where the word stands that is the number t-th by rows of A, or by columns of B: the words lie by the one rule, one side by side.
-fn word_at(spans: usize, halves: usize, t: usize) -> usize
-    requires { ⌜ (0 < spans) × (spans ≤ 2) × (0 < halves) × (halves ≤ 2) × (t < lanes * (spans * halves)) ⌝ }
-    ensures { λ r. ⌜ r ≡ laneOf 1 (t / (spans * 4)) (t % (spans * 4)) * (spans * halves) +
-        elementOf 1 halves (t / (spans * 4)) (t % (spans * 4)) ⌝ }
-{
-    let group = t / Lane::QUAD;
-    let major = kinds::rule::quotient(spans, group);
-    let span = kinds::rule::remainder(spans, group);
-    let lane = major % 8 * Lane::QUAD + t % Lane::QUAD;
-    scaled(halves, scaled(spans, lane) + span) + major / 8
-}
+mod planes;
+mod shifts;
 
 // The word whose every field of four bits is the offset.
 fn mask_of(offset: u64) -> u32
@@ -89,71 +33,18 @@ fn mask_of(offset: u64) -> u32
     0x8888_8888
 }
 
-// The digits of a side by its major and minor numbers, word by word.
+// The digits of a side by its major and minor numbers. That the bits and the side are written out shows the compiler that they are powers of two,
+// by which it need not multiply.
 pub fn digits(words: &[u32], out: &mut [u8; 1024], side: Layout, offset: u64)
     requires { ⌜ Digitised (straight side) (now words) (now out) × ((offset ≡ 0) ⊎ (offset ≡ 2 ^ (side .bits - 1))) × (side .bits ≡ 4) ⌝ }
     ensures { λ _. ⌜ Digits side offset (now (words .entry)) (now (out .exit)) ⌝ }
 {
-    let spans = side.spans;
-    let halves = side.halves;
+    let mut f = side;
+    f.turned = false;
+    f.bits = 4;
+    f.side = 8;
     let mask = mask_of(offset);
-    for t in 0..words.len() {
-        let turned = step_products::word(words[word_at(spans, halves, t)] ^ mask);
-        step_products::digits_of(out, turned, 4, 8, t * 8);
-    }
-}
-
-// Bit i of a digit, over a whole byte.
-fn spread(digit: u8, i: usize) -> u8
-    requires { ⌜ i < 4 ⌝ }
-    ensures { λ r. ⌜ r ≡ spreadBit i digit ⌝ }
-{
-    if (digit >> i) % 2 == 1 {
-        return 255;
-    }
-    0
-}
-
-// A plane of B's digits, and all four.
-fn plane(y: &[u8; 1024], out: &mut [u8; 2048], i: usize)
-    requires { ⌜ (i < 4) × (length (now out) ≡ 2048) ⌝ }
-    ensures { λ _. ⌜ now (out .exit) ≡ fills (i * 512) 512 (λ j. spreadBit i (getD (now (y .entry)) j 0)) (now (out .entry)) ⌝ }
-{
-    for j in 0..512 {
-        out[i * 512 + j] = spread(y[j], i);
-    }
-}
-
-fn planes(y: &[u8; 1024], out: &mut [u8; 2048])
-    requires { ⌜ length (now out) ≡ 2048 ⌝ }
-    ensures { λ _. ⌜ Planes (now (y .entry)) (now (out .exit)) ⌝ }
-{
-    for i in 0..4 {
-        plane(y, out, i);
-    }
-}
-
-// The sum of sixteen digits from i on, and of those bits of them that sixteen bytes of a plane have, from j on.
-fn sum(x: &[u8; 1024], i: usize) -> u32
-    requires { ⌜ (i + 16 ≤ 1024) × Small 16 i (now x) ⌝ }
-    ensures { λ r. ⌜ (r ≡ sumN 16 (λ k. getD (now (x .entry)) (i + k) 0)) × (r ≤ 240) ⌝ }
-{
-    let mut s: u8 = 0;
-    for k in 0..16 {
-        s += x[i + k];
-    }
-    s as u32
-}
-
-fn sum_under(x: &[u8; 1024], p: &[u8; 2048], i: usize, j: usize) -> u32
-    requires { ⌜ (i + 16 ≤ 1024) × (j + 16 ≤ 2048) × Small 16 i (now x) ⌝ }
-    ensures { λ r. ⌜ (r ≡ sumN 16 (λ k. bitAnd (getD (now (x .entry)) (i + k) 0) (getD (now (p .entry)) (j + k) 0))) × (r ≤ 240) ⌝ }
-{
-    let mut s: u8 = 0;
-    for k in 0..16 {
-        s += x[i + k] & p[j + k];
-    }
-    s as u32
+    step_products::put_digits(words, out, f, mask);
 }
 
 // The sums of sixteen digits from i on and sixteen from j on.
@@ -161,14 +52,14 @@ fn sixteen(x: &[u8; 1024], y: &[u8; 1024], p: &[u8; 2048], i: usize, j: usize) -
     requires { ⌜ (i + 16 ≤ 1024) × (j + 16 ≤ 512) × Small 16 i (now x) × Small 16 j (now y) × Planes (now y) (now p) ⌝ }
     ensures { λ r. ⌜ Dots 16 (λ k. getD (now (x .entry)) (i + k) 0) (λ k. getD (now (y .entry)) (j + k) 0) r ⌝ }
 {
-    let ones = sum_under(x, p, i, j);
-    let twos = sum_under(x, p, i, 512 + j);
-    let fours = sum_under(x, p, i, 1024 + j);
-    let eights = sum_under(x, p, i, 1536 + j);
+    let ones = planes::sum_under(x, p, i, j);
+    let twos = planes::sum_under(x, p, i, 512 + j);
+    let fours = planes::sum_under(x, p, i, 1024 + j);
+    let eights = planes::sum_under(x, p, i, 1536 + j);
     Dot {
-        products: weighed(ones, twos, fours, eights),
-        a: sum(x, i),
-        b: sum(y, j),
+        products: shifts::weighed(ones, twos, fours, eights),
+        a: planes::sum(x, i),
+        b: planes::sum(y, j),
     }
 }
 
@@ -217,9 +108,9 @@ fn exact(s: Dot, n: usize, h: Offsets) -> Split
     ensures is { λ r. ⌜ (r .plus ≡ s .products + n * (h .a * h .b)) × (r .minus ≡ h .a * s .b + h .b * s .a) ⌝ }
     ensures small { λ r. ⌜ (r .plus ≤ 8388608) × (r .minus ≤ 8388608) ⌝ }
 {
-    let corner = times(times(n as u32, h.a), h.b);
-    let of_a = times(s.a, h.b);
-    let of_b = times(s.b, h.a);
+    let corner = shifts::times(shifts::times(n as u32, h.a), h.b);
+    let of_a = shifts::times(s.a, h.b);
+    let of_b = shifts::times(s.b, h.a);
     Split {
         plus: s.products + corner,
         minus: of_b + of_a,
@@ -262,7 +153,11 @@ fn cell(
     let element = element_of(halves, k);
     let row = kinds::rule::across(2, halves, lane, element);
     let column = kinds::rule::along(2, halves, lane, element);
-    let s = exact(dot_at(spans, x, y, p, row, column), scaled(spans, 32), h);
+    let s = exact(
+        dot_at(spans, x, y, p, row, column),
+        kinds::rule::multiple(spans, 32),
+        h,
+    );
     step_limit::limited(mode, c[k], s.plus, s.minus)
 }
 
@@ -280,7 +175,7 @@ pub fn cells(
     ensures { λ _. ⌜ now (d .exit) ≡ digitsWords l (mode .0) h (now (x .entry)) (now (y .entry)) (now (c .entry)) ⌝ }
 {
     let mut p: [u8; 2048] = [0; 2048];
-    planes(y, &mut p);
+    planes::put(y, &mut p);
     for k in 0..d.len() {
         d[k] = cell(l, mode, h, x, y, &p, c, k);
     }

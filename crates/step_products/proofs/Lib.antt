@@ -1,4 +1,5 @@
 pub mod Masked
 pub mod OffsetDots
+pub mod Rows
 pub mod Signs
 pub mod Worded

@@ -1,16 +1,14 @@
-// The integer kinds: an exact sum costs one multiply a product. With digits that stand too high by ha and hb, the sum of the products is
-// (the sum of the digits' products + n ha hb) - (ha times the sum of B's digits + hb times the sum of A's): two naturals.
+// The eight-bit kinds, one multiply a product, and what the four-bit kinds have of them: a side's digits, and their sums in two naturals. With digits that
+// stand too high by ha and hb, the sum of the products is (the sum of the digits' products + n ha hb) - (ha times the sum of B's digits + hb times the sum of A's).
 ghost use mathlib.Core.Path.{_≡_};
 ghost use mathlib.Core.Logic.{_⊎_};
-ghost use Prim.Native.Nat.{_+_, _*_, _-_, _^_, _<_, _≤_};
+ghost use Prim.Native.Nat.{_+_, _*_, _-_, _/_, _%_, _^_, _<_, _≤_};
 ghost use lib.ListN.{length, getD};
 ghost use Rattle.laws.specs.Fields.{field, joined};
 ghost use Rattle.laws.specs.Toward.{stores, Brings, Below, At};
 ghost use Rattle.kinds.specs.Kinds.{lanes};
-ghost use Rattle.buffers.specs.Stretches.{stretchesOf, OfLane, OfQuad};
+ghost use Rattle.kinds.specs.Rule.{majors, minors, laneOf, elementOf};
 ghost use Rattle.step_products.specs.Sums.{Dots, straight, masked, Digits, Digitised, Summable, digitsWords};
-use buffers::Quad;
-use buffers::Stretch;
 use kinds::Element;
 use kinds::Lane;
 use kinds::Layout;
@@ -82,28 +80,25 @@ fn exact(s: Dot, n: usize, h: Offsets) -> Split
     }
 }
 
-pub fn word(x: u32) -> u64
+fn word(x: u32) -> u64
     ensures { λ r. ⌜ r ≡ x ⌝ }
 {
     x as u64
 }
 
-// The word whose every field is the offset.
-fn mask_of(bits: usize, side: usize, offset: u64) -> u32
-    requires { ⌜ (bits * side ≤ 32) × (side ≤ 32) × (offset < 2 ^ bits) ⌝ }
-    ensures { λ r. ⌜ r ≡ joined bits side (λ j. offset) ⌝ }
+// The word whose every field of eight bits is the offset.
+fn mask_of(offset: u64) -> u32
+    requires { ⌜ (offset ≡ 0) ⊎ (offset ≡ 128) ⌝ }
+    ensures { λ r. ⌜ r ≡ joined 8 4 (λ j. offset) ⌝ }
 {
-    let mut sum: u64 = 0;
-    let mut j = 0;
-    while j < side {
-        sum = (offset << (bits * j)) + sum;
-        j += 1;
+    if offset == 0 {
+        return 0;
     }
-    sum as u32
+    0x8080_8080
 }
 
 // The fields of a word, from base on.
-pub fn digits_of(out: &mut [u8; 1024], word: u64, bits: usize, side: usize, base: usize)
+fn digits_of(out: &mut [u8; 1024], word: u64, bits: usize, side: usize, base: usize)
     requires { ⌜ (bits * side ≤ 32) × (bits ≤ 8) × (side ≤ 32) × (base + side ≤ 1024) × (length (now out) ≡ 1024) ⌝ }
     ensures { λ _. ⌜ now (out .exit) ≡ stores base 1 side (λ j. field bits j word) (now (out .entry)) ⌝ }
 {
@@ -112,65 +107,43 @@ pub fn digits_of(out: &mut [u8; 1024], word: u64, bits: usize, side: usize, base
     }
 }
 
-// One stretch of a lane, with the sign bits of its word turned over.
-fn digits_lane(
-    words: &[u32],
-    out: &mut [u8; 1024],
-    f: Layout,
-    mask: u32,
-    stretch: Stretch,
-    lane: Lane,
-)
-    requires { ⌜ Digitised f (now words) (now out) × (stretch .0 < stretchesOf f) × (lane .0 < lanes) ⌝ }
-    ensures { λ _. ⌜ Brings (masked f mask (now (words .entry))) (OfLane f (f .side) (stretch .0) (lane .0))
-        (now (out .entry)) (now (out .exit)) ⌝ }
+// Where word t of a side stands, counted by major numbers: the words lie by the one rule as the elements do, one side by side.
+fn word_at(spans: usize, halves: usize, t: usize) -> usize
+    requires { ⌜ (0 < spans) × (spans ≤ 2) × (0 < halves) × (halves ≤ 2) × (t < lanes * (spans * halves)) ⌝ }
+    ensures { λ r. ⌜ r ≡ laneOf 1 (t / (spans * 4)) (t % (spans * 4)) * (spans * halves) +
+        elementOf 1 halves (t / (spans * 4)) (t % (spans * 4)) ⌝ }
 {
-    let base = buffers::base_of(f, stretch, lane);
-    let k = lane.0 as usize * f.words + stretch.0;
-    let turned = word(words[k] ^ mask);
-    digits_of(out, turned, f.bits, f.side, base);
+    let group = t / Lane::QUAD;
+    let major = kinds::rule::quotient(spans, group);
+    let span = kinds::rule::remainder(spans, group);
+    let lane = major % 8 * Lane::QUAD + t % Lane::QUAD;
+    kinds::rule::multiple(halves, kinds::rule::multiple(spans, lane) + span) + major / 8
 }
 
-// The same stretch of a quad's lanes, and of every quad's.
-fn digits_quad(
-    words: &[u32],
-    out: &mut [u8; 1024],
-    f: Layout,
-    mask: u32,
-    stretch: Stretch,
-    quad: Quad,
-)
-    requires { ⌜ Digitised f (now words) (now out) × (stretch .0 < stretchesOf f) × (quad .0 < 8) ⌝ }
-    ensures { λ _. ⌜ Brings (masked f mask (now (words .entry))) (OfQuad f (f .side) (stretch .0) (quad .0))
-        (now (out .entry)) (now (out .exit)) ⌝ }
+// The fields of every word, one word's after another's, with the bits turned over that the mask has. Where the compiler knows the bits and the
+// side, it multiplies by powers of two alone.
+pub fn put_digits(words: &[u32], out: &mut [u8; 1024], f: Layout, mask: u32)
+    requires { ⌜ Digitised f (now words) (now out) ⌝ }
+    ensures { λ _. ⌜ Brings (masked f mask (now (words .entry))) (λ z. z < majors f * minors f) (now (out .entry)) (now (out .exit)) ⌝ }
 {
-    for t in 0..Lane::QUAD {
-        digits_lane(words, out, f, mask, stretch, quad.lane(t));
-    }
-}
-
-fn digits_quads(words: &[u32], out: &mut [u8; 1024], f: Layout, mask: u32, stretch: Stretch)
-    requires { ⌜ Digitised f (now words) (now out) × (stretch .0 < stretchesOf f) ⌝ }
-    ensures { λ _. ⌜ Brings (masked f mask (now (words .entry))) (Below 8 (OfQuad f (f .side) (stretch .0)))
-        (now (out .entry)) (now (out .exit)) ⌝ }
-{
-    for quad in 0..Quad::COUNT {
-        digits_quad(words, out, f, mask, stretch, Quad(quad));
+    for t in 0..words.len() {
+        let turned = word(words[word_at(f.spans, f.halves, t)] ^ mask);
+        digits_of(out, turned, f.bits, f.side, t * f.side);
     }
 }
 
 // The digits of a side by its major and minor numbers, of A by rows and of B by columns: the matrix of the layout that is not turned. An
-// offset is nothing or a sign bit's weight, and to add that is to turn the bit over.
+// offset is nothing or a sign bit's weight, and to add that is to turn the bit over. The bits and the side are written out for the compiler.
 pub fn digits(words: &[u32], out: &mut [u8; 1024], side: Layout, offset: u64)
-    requires { ⌜ Digitised (straight side) (now words) (now out) × ((offset ≡ 0) ⊎ (offset ≡ 2 ^ (side .bits - 1))) ⌝ }
+    requires { ⌜ Digitised (straight side) (now words) (now out) × ((offset ≡ 0) ⊎ (offset ≡ 2 ^ (side .bits - 1))) × (side .bits ≡ 8) ⌝ }
     ensures { λ _. ⌜ Digits side offset (now (words .entry)) (now (out .exit)) ⌝ }
 {
     let mut f = side;
     f.turned = false;
-    let mask = mask_of(f.bits, f.side, offset);
-    for stretch in 0..buffers::stretches_in(f) {
-        digits_quads(words, out, f, mask, Stretch(stretch));
-    }
+    f.bits = 8;
+    f.side = 4;
+    let mask = mask_of(offset);
+    put_digits(words, out, f, mask);
 }
 
 // The words of D that a lane holds.

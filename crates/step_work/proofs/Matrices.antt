@@ -89,6 +89,10 @@ module _ (k : ℕ) (ok : Arithmetic k) where
     integer-test : (f g : Entry → ℕ) → T (all kinds (among int8Element int4Element (λ e. leb (f e) (g e)))) → f e ≤ g e
     integer-test f g t = among-≤ k (ok .low) (ok .high) int8Element int4Element two f g t
 
+    -- four bits or eight
+    pub eight-bits : (e .bits ≡ 4 → ⊥) → e .bits ≡ 8
+    eight-bits other = omega (arith, other, bits-le, integer-test (λ e. 4) (λ e. e .bits) tt, integer-test (λ e. e .bits % 4) (λ e. 0) tt)
+
     pub depth-small : depth k ≤ 64
     depth-small = integer-test (λ e. e .k) (λ e. 64) tt
 

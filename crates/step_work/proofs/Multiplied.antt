@@ -26,7 +26,7 @@ use Rattle.step_products.proofs.OffsetDots.{dot-digits, offset-ext}
 use Rattle.step_products.proofs.Signs.{doubled}
 use Rattle.step_nibbles.specs.Planes.{Nibbled}
 use Rattle.answers.specs.Tests.{Says}
-use Rattle.step_work.proofs.Matrices.{entry-A, entry-B, entry-C, stepped-is, legal, depth-is, depth-small, pairs, bits-pos, bits-le, columns-half, halves-pos, words-pos, room-A, room-B, halves-le}
+use Rattle.step_work.proofs.Matrices.{entry-A, entry-B, entry-C, stepped-is, legal, depth-is, depth-small, pairs, bits-pos, bits-le, columns-half, halves-pos, words-pos, eight-bits, room-A, room-B, halves-le}
 
 module _ (k signs mode : ℕ) (ok : Ready k signs mode) (two : Says (integer k)) (a b c xs ys : List ℕ) (fit : (x : ℕ) → getD c x 0 < 2 ^ 32) where
   abbrev β : ℕ
@@ -140,6 +140,9 @@ module _ (k signs mode : ℕ) (ok : Ready k signs mode) (two : Says (integer k))
         of-c = lc ∙ rw el refl;
         of-d = ld ∙ rw el refl;
       }
+
+  pub eight : (l .a .bits ≡ 4 → ⊥) → l .a .bits ≡ 8
+  eight = rw el (eight-bits k (ok .of) two)
 
   -- and of the digits, where they have four bits
   pub nibbled : (a b xs ys : List ℕ) (h : Offsets) → l .a .bits ≡ 4

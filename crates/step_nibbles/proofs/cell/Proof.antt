@@ -77,7 +77,7 @@ exact-requires : tie.Need-exact-requires
 exact-requires c κs =
     let d = c .before .dot-at .ensures in
     let p = S (c .before .before) .pre in
-    (omega (arith, c .scaled .ensures .0, p .0 .spans-le), p .1 .offset-a, p .1 .offset-b, omega (arith, d .products-le, p .0 .spans-le), omega (arith, d .a-le, p .0 .spans-le), omega (arith, d .b-le, p .0 .spans-le))
+    (omega (arith, c .multiple .ensures .0, p .0 .spans-le), p .1 .offset-a, p .1 .offset-b, omega (arith, d .products-le, p .0 .spans-le), omega (arith, d .a-le, p .0 .spans-le), omega (arith, d .b-le, p .0 .spans-le))
 
 returns : tie.Need-returns
 returns c =
@@ -87,7 +87,7 @@ returns c =
     let s = S t in
     let a = s .args in
     let each = a .l .c .words in
-    let n : e .before .scaled .result ≡ spans s * 32 = e .before .scaled .ensures .0 ∙ omega arith in
+    let n : e .before .multiple .result ≡ spans s * 32 = e .before .multiple .ensures .0 ∙ omega arith in
     let lane-is : lane t ≡ k s / each = t .before .before .before .lane-of .ensures .0 ∙ ap (λ (n : ℕ). k s / n) (sym (s .pre .0 .pairs)) in
     let element-is : i t ≡ k s % each = t .before .before .element-of .ensures .0 ∙ ap (λ (n : ℕ). k s % n) (sym (s .pre .0 .pairs)) in
     subst (λ (n : ℕ). c .limited .result ≡ digitsWord (a .mode .0) n (a .h .a) (a .h .b) each (halves s) (now (a .x)) (now (a .y)) (now (a .c)) (k s / each) (k s % each)) (sym (long s))

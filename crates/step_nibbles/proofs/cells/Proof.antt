@@ -37,7 +37,7 @@ cell-requires c κs =
     let s = made .before .before .before .before in
     let a = s .args in
     let p = s .pre .0 in
-    (still-summable (a .l) (a .mode .0) (a .h) (now (a .c)) (now (a .d)) (now (a .c)) p (p .of-c ∙ sym (p .of-d)), s .pre .1, made .planes .ensures, omega (arith, i .loop-test .taken, p .of-c, p .of-d))
+    (still-summable (a .l) (a .mode .0) (a .h) (now (a .c)) (now (a .d)) (now (a .c)) p (p .of-c ∙ sym (p .of-d)), s .pre .1, made .put .ensures, omega (arith, i .loop-test .taken, p .of-c, p .of-d))
 
 loop-again : tie.Need-loop-again Inv-loop μ-loop
 loop-again c =

@@ -5,7 +5,7 @@ use Prim.Native.Nat.{ℕ, _*_, _/_, _<_}
 use native.Mathlib.Nat.{div-lt-iff-lt-mul, mul-comm}
 use native.Mathlib.Omega.{arith}
 use Rattle.kinds.specs.Kinds.{lanes}
-use Rattle.step_nibbles.proofs.Rows.{quotient-by}
+use Rattle.step_products.proofs.Rows.{quotient-by}
 use Rattle.step_nibbles.proofs.lane_of.Statement.{statement}
 use Rattle.step_nibbles.proofs.lane_of.Tie as tie
 

@@ -78,6 +78,9 @@ module _ (t : tie.After-struct-known) where
     multiplied =
         sums.multiplied _ _ _ (S K .pre .0 .0) (S K .pre .0 .1) (l K) (K .of .ensures) _ _ _ xs ys h (λ x. K .before .before .shared-slice-known3 .given x .fits) offset-A offset-B dx dy
 
+eight : (e : tie.Else1) → bits (e .before) ≡ 8
+eight e = let k = K (e .before) in sums.eight _ _ _ (S k .pre .0 .0) (S k .pre .0 .1) (l k) (k .of .ensures) (e .if1 .left)
+
 offset-requires : tie.Need-offset-requires
 offset-requires c κs = let n = known (c .before .before .before) in (n .3, n .2)
 
@@ -107,10 +110,13 @@ returns c =
     c .before .before .cells .ensures ∙ multiplied (a .before .before .before) _ _ (a .digits .ensures) (b .digits2 .ensures)
 
 digits-requires-3 : tie.Need-digits-requires-3
-digits-requires-3 c κs = asked-A (c .before .before) _ refl
+digits-requires-3 c κs = let a = asked-A (c .before .before) _ refl in (a .0, a .1, eight (c .before))
 
 digits-requires-4 : tie.Need-digits-requires-4
-digits-requires-4 c κs = asked-B (c .before .before .before .before) _ refl
+digits-requires-4 c κs =
+    let e = c .before .before .before in
+    let b = asked-B (e .before) _ refl in
+    (b .0, b .1, known (K (e .before)) .4 ∙ eight e)
 
 cells-requires-2 : tie.Need-cells-requires-2
 cells-requires-2 c κs = summable (c .before .before .before .before .before .before .before .before)

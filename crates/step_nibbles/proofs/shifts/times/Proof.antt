@@ -5,8 +5,8 @@ use Prim.Native.Nat.{ℕ, _+_, _*_, _<_, _≤_}
 use native.Mathlib.Nat.{mul-le-mul}
 use native.Mathlib.Omega.{arith}
 use Rattle.step_nibbles.proofs.Terms.{terms}
-use Rattle.step_nibbles.proofs.times.Statement.{statement}
-use Rattle.step_nibbles.proofs.times.Tie as tie
+use Rattle.step_nibbles.proofs.shifts.times.Statement.{statement}
+use Rattle.step_nibbles.proofs.shifts.times.Tie as tie
 
 most : (x y : ℕ) → y < 16 → x * y ≤ 15 * x
 most x y l = omega (arith, mul-le-mul {n₁ = x} {m₁ = y} {n₂ = x} {m₂ = 15} (omega arith) (omega arith))

@@ -10,8 +10,8 @@ use lib.ListN.{length, getD}
 use Rattle.laws.specs.Lists.{fills, blocks}
 use Rattle.laws.proofs.Lists.{fills-block, fills-at, length-fills}
 use Rattle.step_nibbles.specs.Planes.{spreadBit}
-use Rattle.step_nibbles.proofs.planes.Statement.{statement}
-use Rattle.step_nibbles.proofs.planes.Tie as tie
+use Rattle.step_nibbles.proofs.planes.put.Statement.{statement}
+use Rattle.step_nibbles.proofs.planes.put.Tie as tie
 
 abbrev bits : List ℕ → ℕ → ℕ → ℕ
 bits y i j = spreadBit i (getD y j 0)
@@ -34,7 +34,7 @@ loop-again c =
     let g = bits (now (s .y)) in
     let out = now (s .out) in
     let e =
-    c .plane .ensures
+    c .put-one .ensures
     ∙ ap (λ (xs : List ℕ). fills (i * 512) 512 (g i) xs) (l .loop .inv .1)
     ∙ ap (λ (base : ℕ). fills base 512 (g i) (fills 0 (i * 512) (blocks 512 g) out)) (sym (zero-add (i * 512)))
     ∙ fills-block 0 i 512 g out in
@@ -50,5 +50,5 @@ returns c i j hi hj =
     ap (λ (xs : List ℕ). getD xs (i * 512 + j) 0) (l .loop .inv .1 ∙ ap (λ (n : ℕ). fills 0 (n * 512) (blocks 512 g) out) e)
     ∙ fills-at 4 512 g out 0 i j (omega (arith, s .pre)) hi hj
 
-pub planes-spec : {M : Type 1} → statement M
-planes-spec = tie.close (tie.spec Inv-loop μ-loop loop-holds (λ c κs. search needs) (λ c. search needs) (λ c. search needs) loop-again returns)
+pub put-spec : {M : Type 1} → statement M
+put-spec = tie.close (tie.spec Inv-loop μ-loop loop-holds (λ c κs. search needs) (λ c. search needs) (λ c. search needs) loop-again returns)

@@ -8,8 +8,8 @@ use denote.Ref.{now}
 use lib.Bits.{bitAnd, and-le-l}
 use lib.ListN.{getD}
 use Rattle.laws.specs.Bits.{sumN}
-use Rattle.step_nibbles.proofs.sum_under.Statement.{statement}
-use Rattle.step_nibbles.proofs.sum_under.Tie as tie
+use Rattle.step_nibbles.proofs.planes.sum_under.Statement.{statement}
+use Rattle.step_nibbles.proofs.planes.sum_under.Tie as tie
 
 abbrev Inv-loop : tie.InvT-loop
 Inv-loop x p i j s₀ k₀ s k = (k ≤ 16) × (s ≡ sumN k (λ t. bitAnd (getD x (i + t) 0) (getD p (j + t) 0))) × (s ≤ 15 * k)

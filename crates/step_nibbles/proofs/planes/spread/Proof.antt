@@ -1,8 +1,8 @@
 -- A bit is nought or one. Assumes nothing.
 use borrow.Author.Needs.{needs}
 use native.Mathlib.Omega.{arith}
-use Rattle.step_nibbles.proofs.spread.Statement.{statement}
-use Rattle.step_nibbles.proofs.spread.Tie as tie
+use Rattle.step_nibbles.proofs.planes.spread.Statement.{statement}
+use Rattle.step_nibbles.proofs.planes.spread.Tie as tie
 
 returns : tie.Need-returns
 returns c = omega (arith, c .if1 .taken)

@@ -3,8 +3,8 @@ use borrow.Author.Needs.{needs}
 use mathlib.Core.Path.{_≡_}
 use Prim.Native.Nat.{ℕ, _*_, _<_, _≤_}
 use native.Mathlib.Omega.{arith}
-use Rattle.step_nibbles.proofs.under.Statement.{statement}
-use Rattle.step_nibbles.proofs.under.Tie as tie
+use Rattle.step_nibbles.proofs.shifts.under.Statement.{statement}
+use Rattle.step_nibbles.proofs.shifts.under.Tie as tie
 
 bit-one : (x b : ℕ) → b ≡ 1 → x ≡ x * b
 bit-one x b e = rw e (omega arith)

@@ -4,27 +4,27 @@ use mathlib.Core.Path.{_≡_, ap, ap₂, _∙_}
 use Prim.Native.Nat.{ℕ, _+_, _*_, _/_, _%_, _<_, _≤_}
 use native.Mathlib.Nat.{mod-lt, div-le-self}
 use native.Mathlib.Omega.{arith}
-use Rattle.step_nibbles.proofs.Rows.{stands-at}
-use Rattle.step_nibbles.proofs.word_at.Statement.{statement}
-use Rattle.step_nibbles.proofs.word_at.Tie as tie
+use Rattle.step_products.proofs.Rows.{stands-at}
+use Rattle.step_products.proofs.word_at.Statement.{statement}
+use Rattle.step_products.proofs.word_at.Tie as tie
 
-module _ (c : tie.After-scaled) where
+module _ (c : tie.After-multiple) where
   abbrev S : tie.Start
   S = c .before .before .before
 
-  few : c .scaled .result + c .before .remainder .result ≤ 66
-  few = omega (arith, c .scaled .ensures .1, c .before .remainder .ensures, mod-lt (S .args .t / 4) (S .pre .0), S .pre .1)
+  few : c .multiple .result + c .before .remainder .result ≤ 66
+  few = omega (arith, c .multiple .ensures .1, c .before .remainder .ensures, mod-lt (S .args .t / 4) (S .pre .0), S .pre .1)
 
-add-scaled : tie.Need-add-scaled
-add-scaled c = omega (arith, few c)
+add-multiple : tie.Need-add-multiple
+add-multiple c = omega (arith, few c)
 
-scaled-requires-2 : tie.Need-scaled-requires-2
-scaled-requires-2 c κs = let l = few c in search needs
+multiple-requires-2 : tie.Need-multiple-requires-2
+multiple-requires-2 c κs = let l = few c in search needs
 
 add-result : tie.Need-add-result
 add-result c =
     let s = c .before in
-    omega (arith, few s, c .scaled2 .ensures .1, s .before .before .quotient .ensures, div-le-self (S s .args .t / 4) (S s .args .spans), S s .fits)
+    omega (arith, few s, c .multiple2 .ensures .1, s .before .before .quotient .ensures, div-le-self (S s .args .t / 4) (S s .args .spans), S s .fits)
 
 returns : tie.Need-returns
 returns c =
@@ -33,7 +33,7 @@ returns c =
     let s = S l .args in
     let major : r .before .quotient .result ≡ s .t / 4 / s .spans = r .before .quotient .ensures in
     ap₂ _+_
-    (c .scaled2 .ensures .0 ∙ ap₂ (λ (n m : ℕ). (n + m) * s .halves) (l .scaled .ensures .0 ∙ ap (λ (n : ℕ). (n % 8 * 4 + s .t % 4) * s .spans) major) (r .remainder .ensures))
+    (c .multiple2 .ensures .0 ∙ ap₂ (λ (n m : ℕ). (n + m) * s .halves) (l .multiple .ensures .0 ∙ ap (λ (n : ℕ). (n % 8 * 4 + s .t % 4) * s .spans) major) (r .remainder .ensures))
     (ap (λ (n : ℕ). n / 8) major)
     ∙ stands-at (s .spans) (s .halves) (s .t) (S l .pre .0)
 
@@ -46,7 +46,7 @@ word-at-spec =
     (λ c. search needs)
     (λ c. search needs)
     (λ c κs. search needs)
-    add-scaled
-    scaled-requires-2
+    add-multiple
+    multiple-requires-2
     add-result
     returns)

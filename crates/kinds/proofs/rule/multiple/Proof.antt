@@ -1,9 +1,10 @@
 -- By ones or by twos. Assumes nothing.
+use borrow.Author.Needs.{needs}
 use mathlib.Core.Path.{_≡_}
 use Prim.Native.Nat.{ℕ, _*_, _≤_}
 use native.Mathlib.Omega.{arith}
-use Rattle.step_nibbles.proofs.scaled.Statement.{statement}
-use Rattle.step_nibbles.proofs.scaled.Tie as tie
+use Rattle.kinds.proofs.rule.multiple.Statement.{statement}
+use Rattle.kinds.proofs.rule.multiple.Tie as tie
 
 returns : tie.Need-returns
 returns c = (rw (c .if1 .taken) (omega arith), omega arith)
@@ -13,5 +14,5 @@ returns-2 c =
     let e : c .before .args .by ≡ 2 = omega (arith, c .if1 .left) in
     (rw e (omega arith), omega arith)
 
-pub scaled-spec : {M : Type 1} → statement M
-scaled-spec = tie.close (tie.spec returns returns-2)
+pub multiple-spec : {M : Type 1} → statement M
+multiple-spec = tie.close (tie.spec returns (λ c. search needs) returns-2)

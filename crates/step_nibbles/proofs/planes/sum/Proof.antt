@@ -7,8 +7,8 @@ use native.Mathlib.Omega.{arith}
 use denote.Ref.{now}
 use lib.ListN.{getD}
 use Rattle.laws.specs.Bits.{sumN}
-use Rattle.step_nibbles.proofs.sum.Statement.{statement}
-use Rattle.step_nibbles.proofs.sum.Tie as tie
+use Rattle.step_nibbles.proofs.planes.sum.Statement.{statement}
+use Rattle.step_nibbles.proofs.planes.sum.Tie as tie
 
 abbrev Inv-loop : tie.InvT-loop
 Inv-loop x i s₀ k₀ s k = (k ≤ 16) × (s ≡ sumN k (λ t. getD x (i + t) 0)) × (s ≤ 15 * k)

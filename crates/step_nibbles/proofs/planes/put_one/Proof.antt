@@ -9,8 +9,8 @@ use lib.ListN.{length, getD, set}
 use Rattle.laws.specs.Lists.{fills}
 use Rattle.laws.proofs.Lists.{fills-more, length-fills}
 use Rattle.step_nibbles.specs.Planes.{spreadBit}
-use Rattle.step_nibbles.proofs.plane.Statement.{statement}
-use Rattle.step_nibbles.proofs.plane.Tie as tie
+use Rattle.step_nibbles.proofs.planes.put_one.Statement.{statement}
+use Rattle.step_nibbles.proofs.planes.put_one.Tie as tie
 
 abbrev bits : (y : List ℕ) (i : ℕ) → ℕ → ℕ
 bits y i j = spreadBit i (getD y j 0)
@@ -41,8 +41,8 @@ returns c =
     let e : l .loop .j ≡ 512 = omega arith in
     l .loop .inv .1 ∙ ap (λ (n : ℕ). fills (s .i * 512) n (bits (now (s .y)) (s .i)) (now (s .out))) e
 
-pub plane-spec : {M : Type 1} → statement M
-plane-spec =
+pub put-one-spec : {M : Type 1} → statement M
+put-one-spec =
     tie.close
     (tie.spec
     Inv-loop
