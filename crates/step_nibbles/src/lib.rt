@@ -33,18 +33,13 @@ fn mask_of(offset: u64) -> u32
     0x8888_8888
 }
 
-// The digits of a side by its major and minor numbers. That the bits and the side are written out shows the compiler that they are powers of two,
-// by which it need not multiply.
+// The digits of a side by its major and minor numbers.
 pub fn digits(words: &[u32], out: &mut [u8; 1024], side: Layout, offset: u64)
     requires { ⌜ Digitised (straight side) (now words) (now out) × ((offset ≡ 0) ⊎ (offset ≡ 2 ^ (side .bits - 1))) × (side .bits ≡ 4) ⌝ }
     ensures { λ _. ⌜ Digits side offset (now (words .entry)) (now (out .exit)) ⌝ }
 {
-    let mut f = side;
-    f.turned = false;
-    f.bits = 4;
-    f.side = 8;
     let mask = mask_of(offset);
-    step_products::put_digits(words, out, f, mask);
+    step_products::put_digits(words, out, 4, 8, side.spans, side.halves, mask);
 }
 
 // The sums of sixteen digits from i on and sixteen from j on.

@@ -4,7 +4,7 @@ use mathlib.Core.Bool.{false}
 use mathlib.Core.List.{List}
 use mathlib.Core.Logic.{_⊎_, inl, inr}
 use Prim.Native.Nat.{ℕ, _+_, _*_, _-_, _/_, _%_, _^_, _<_}
-use native.Mathlib.Nat.{mod-lt}
+use native.Mathlib.Nat.{mod-lt, mul-assoc, mul-comm}
 use native.Mathlib.Omega.{arith}
 use lib.Arith.{digits-lt, digits-div, digits-mod}
 use lib.Bits.{bitXor}
@@ -20,6 +20,7 @@ use Rattle.kinds.specs.Workers.{Laid}
 use Rattle.kinds.specs.declared.Layout.{Layout}
 use Rattle.buffers.specs.Buffers.{elementAt}
 use Rattle.buffers.proofs.Elements.{element-lt}
+use Rattle.buffers.proofs.Places.{stretch-fills}
 use Rattle.step_products.specs.Sums.{xorIn, masked, digitAt, straight, Digits, Digitised}
 use Rattle.step_products.proofs.Signs.{xor-digit, doubled}
 
@@ -27,6 +28,14 @@ use Rattle.step_products.proofs.Signs.{xor-digit, doubled}
 pub offset-lt : (b o : ℕ) → 0 < b → (o ≡ 0) ⊎ (o ≡ 2 ^ (b - 1)) → o < 2 ^ b
 offset-lt b o some (inl e) = omega (arith, pow-pos b)
 offset-lt b o some (inr e) = omega (arith, doubled b some, pow-pos (b - 1))
+
+-- a lane has a word for each span and half
+pub words-are : (f : Layout) → Laid f → f .bits < 32 → f .words ≡ f .spans * f .halves
+words-are f ok narrow =
+    let each = f .spans * f .halves in
+    let e : f .bits * (each * f .side) ≡ 32 * each
+    = sym (mul-assoc (f .bits) each (f .side)) ∙ ap (λ (n : ℕ). n * f .side) (mul-comm (f .bits) each) ∙ mul-assoc each (f .bits) (f .side) ∙ ap (λ (n : ℕ). each * n) (stretch-fills f ok narrow) ∙ mul-comm each 32 in
+    omega (arith, e, ok .full)
 
 module _ (f : Layout) (mask : ℕ) (ws : List ℕ) where
   abbrev entry : ℕ → ℕ → ℕ
@@ -55,12 +64,14 @@ module _ (f : Layout) (mask : ℕ) (ws : List ℕ) where
 -- the digits of a side whose width is known
 module _ (side : Layout) (b p : ℕ) (ws xs : List ℕ) (ok : Digitised (straight side) ws xs) (width : side .bits ≡ b) (abreast : 32 / b ≡ p) where
   abbrev pub known : Layout
-  known = shape b (side .words) p (side .halves) (side .spans) false
+  known = shape b (side .spans * side .halves) p (side .halves) (side .spans) false
 
   is : straight side ≡ known
   is =
-      let e : side .side ≡ p = ok .laid .narrow-side (omega (arith, ok .narrow)) ∙ ap (λ (b : ℕ). 32 / b) width ∙ abreast in
-      rw (width, e) refl
+      let narrow : side .bits < 32 = omega (arith, ok .narrow) in
+      let e : side .side ≡ p = ok .laid .narrow-side narrow ∙ ap (λ (b : ℕ). 32 / b) width ∙ abreast in
+      let words = words-are (straight side) (ok .laid) narrow in
+      rw (words, width, e) refl
 
   pub known-digitised : Digitised known ws xs
   known-digitised = subst (λ (f : Layout). Digitised f ws xs) is ok

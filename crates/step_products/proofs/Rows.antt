@@ -17,7 +17,7 @@ use Rattle.kinds.proofs.Digits.{lane-lt, element-lt}
 use Rattle.buffers.proofs.Elements.{element-field}
 use Rattle.buffers.proofs.Places.{stretch-fills}
 use Rattle.step_products.specs.Sums.{masked, xorIn, Digitised}
-use Rattle.step_products.proofs.Masked.{masked-entry}
+use Rattle.step_products.proofs.Masked.{words-are, masked-entry}
 use Rattle.step_products.proofs.Signs.{field-xor}
 
 -- a quotient by a product, one factor after the other
@@ -82,13 +82,8 @@ module _ (f : Layout) (ws out : List ℕ) (ok : Digitised f ws out) where
   abbrev each : ℕ
   each = f .spans * f .halves
 
-  pub fills : f .bits * p ≡ 32
-  fills = stretch-fills f (ok .laid) (omega (arith, ok .narrow))
-
-  pub words-are : f .words ≡ each
-  words-are =
-      let e : f .bits * (each * p) ≡ 32 * each = sym (mul-assoc (f .bits) each p) ∙ ap (λ (n : ℕ). n * p) (mul-comm (f .bits) each) ∙ mul-assoc each (f .bits) p ∙ ap (λ (n : ℕ). each * n) fills ∙ mul-comm each 32 in
-      omega (arith, e, ok .laid .full)
+  narrow : f .bits < 32
+  narrow = omega (arith, ok .narrow)
 
   -- every place is a field's
   places : majors f * minors f ≡ lanes * each * p
@@ -122,7 +117,7 @@ module _ (f : Layout) (ws out : List ℕ) (ok : Digitised f ws out) where
         let one : 0 < 1 = omega arith in
         let lane = lane-lt 1 (f .halves) one (ok .laid .halves-pos) row at in
         let element = element-lt 1 (f .halves) one (ok .laid .halves-pos) (f .spans) row at row-in (omega (arith, at-in)) in
-        subst (λ (n : ℕ). word < n) (sym (ok .words ∙ ap (λ (n : ℕ). lanes * n) words-are)) (digits-lt lane (omega (arith, element)))
+        subst (λ (n : ℕ). word < n) (sym (ok .words ∙ ap (λ (n : ℕ). lanes * n) (words-are f (ok .laid) narrow))) (digits-lt lane (omega (arith, element)))
 
     pub room : t * p + p ≤ 1024
     room = omega (arith, block-le t (lanes * each) p l, places, ok .room)
@@ -136,7 +131,7 @@ module _ (f : Layout) (ws out : List ℕ) (ok : Digitised f ws out) where
         let place : row * minors f + y ≡ t * p + j = omega (arith, mul-assoc row n p, add-mul (row * n) at p, ap (λ (z : ℕ). z * p) (div-add-mod' t n)) in
         field-xor b j (getD ws word 0) mask
         ∙ ap₂ (λ (v i : ℕ). bitXor v (field b i mask))
-        (ap (λ (n : ℕ). field b j (getD ws (laneOf 1 row at * n + e) 0)) (sym words-are) ∙ sym (element-field (f .words) ws (laneOf 1 row at) b p e j fills hj)) (sym (digits-mod e hj))
+        (ap (λ (n : ℕ). field b j (getD ws (laneOf 1 row at * n + e) 0)) (sym (words-are f (ok .laid) narrow)) ∙ sym (element-field (f .words) ws (laneOf 1 row at) b p e j (stretch-fills f (ok .laid) narrow) hj)) (sym (digits-mod e hj))
         ∙ sym (ap₂ (xorIn f mask ws) (lane-is p (f .halves) row at j hj) (element-is p (f .halves) row at j hj))
         ∙ sym (masked-entry f mask ws row y row-in (digits-lt at-in hj))
         ∙ ap (λ (z : ℕ). getD (masked f mask ws) z 0) place

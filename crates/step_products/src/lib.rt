@@ -1,13 +1,14 @@
 // The eight-bit kinds, one multiply a product, and what the four-bit kinds have of them: a side's digits, and their sums in two naturals. With digits that
 // stand too high by ha and hb, the sum of the products is (the sum of the digits' products + n ha hb) - (ha times the sum of B's digits + hb times the sum of A's).
 ghost use mathlib.Core.Path.{_≡_};
+ghost use mathlib.Core.Bool.{false};
 ghost use mathlib.Core.Logic.{_⊎_};
 ghost use Prim.Native.Nat.{_+_, _*_, _-_, _/_, _%_, _^_, _<_, _≤_};
 ghost use lib.ListN.{length, getD};
 ghost use Rattle.laws.specs.Fields.{field, joined};
 ghost use Rattle.laws.specs.Toward.{stores, Brings, Below, At};
 ghost use Rattle.kinds.specs.Kinds.{lanes};
-ghost use Rattle.kinds.specs.Rule.{majors, minors, laneOf, elementOf};
+ghost use Rattle.kinds.specs.Rule.{shape, laneOf, elementOf};
 ghost use Rattle.step_products.specs.Sums.{Dots, straight, masked, Digits, Digitised, Summable, digitsWords};
 use kinds::Element;
 use kinds::Lane;
@@ -120,30 +121,35 @@ fn word_at(spans: usize, halves: usize, t: usize) -> usize
     kinds::rule::multiple(halves, kinds::rule::multiple(spans, lane) + span) + major / 8
 }
 
-// The fields of every word, one word's after another's, with the bits turned over that the mask has. Where the compiler knows the bits and the
-// side, it multiplies by powers of two alone.
-pub fn put_digits(words: &[u32], out: &mut [u8; 1024], f: Layout, mask: u32)
-    requires { ⌜ Digitised f (now words) (now out) ⌝ }
-    ensures { λ _. ⌜ Brings (masked f mask (now (words .entry))) (λ z. z < majors f * minors f) (now (out .entry)) (now (out .exit)) ⌝ }
+// The fields of every word, one word's after another's, with the bits turned over that the mask has. It is called with the bits and the side written
+// out, so that the compiler, which then lays it into its caller, multiplies by powers of two alone.
+pub fn put_digits(
+    words: &[u32],
+    out: &mut [u8; 1024],
+    bits: usize,
+    side: usize,
+    spans: usize,
+    halves: usize,
+    mask: u32,
+)
+    requires { ⌜ Digitised (shape bits (spans * halves) side halves spans false) (now words) (now out) ⌝ }
+    ensures { λ _. ⌜ Brings (masked (shape bits (spans * halves) side halves spans false) mask (now (words .entry)))
+        (λ z. z < halves * 8 * (spans * 4 * side)) (now (out .entry)) (now (out .exit)) ⌝ }
 {
     for t in 0..words.len() {
-        let turned = word(words[word_at(f.spans, f.halves, t)] ^ mask);
-        digits_of(out, turned, f.bits, f.side, t * f.side);
+        let turned = word(words[word_at(spans, halves, t)] ^ mask);
+        digits_of(out, turned, bits, side, t * side);
     }
 }
 
 // The digits of a side by its major and minor numbers, of A by rows and of B by columns: the matrix of the layout that is not turned. An
-// offset is nothing or a sign bit's weight, and to add that is to turn the bit over. The bits and the side are written out for the compiler.
+// offset is nothing or a sign bit's weight, and to add that is to turn the bit over.
 pub fn digits(words: &[u32], out: &mut [u8; 1024], side: Layout, offset: u64)
     requires { ⌜ Digitised (straight side) (now words) (now out) × ((offset ≡ 0) ⊎ (offset ≡ 2 ^ (side .bits - 1))) × (side .bits ≡ 8) ⌝ }
     ensures { λ _. ⌜ Digits side offset (now (words .entry)) (now (out .exit)) ⌝ }
 {
-    let mut f = side;
-    f.turned = false;
-    f.bits = 8;
-    f.side = 4;
     let mask = mask_of(offset);
-    put_digits(words, out, f, mask);
+    put_digits(words, out, 8, 4, side.spans, side.halves, mask);
 }
 
 // The words of D that a lane holds.
