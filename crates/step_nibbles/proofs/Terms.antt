@@ -1,6 +1,6 @@
 -- A product is four terms, one for each bit of the second factor, by the bits' weights; so is a sum of products, term by term. A digit under a bit
 -- that is spread over a byte is the digit times the bit. Assumes nothing.
-use mathlib.Core.Path.{_≡_, sym, ap, ap₂, _∙_}
+use mathlib.Core.Path.{_≡_, sym, ap, _∙_}
 use Prim.Native.Nat.{ℕ, zero, suc, _+_, _*_, _/_, _%_, _^_, _<_}
 use native.Mathlib.Nat.{mul-add, mul-comm, mul-assoc, mod-eq-of-lt, mod-lt}
 use native.Mathlib.Omega.{arith}

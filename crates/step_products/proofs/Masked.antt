@@ -25,7 +25,7 @@ use Rattle.step_products.specs.Sums.{xorIn, masked, digitAt, straight, D
 use Rattle.step_products.proofs.Signs.{xor-digit, doubled}
 
 -- an offset is a field's number
-pub offset-lt : (b o : ℕ) → 0 < b → (o ≡ 0) ⊎ (o ≡ 2 ^ (b - 1)) → o < 2 ^ b
+offset-lt : (b o : ℕ) → 0 < b → (o ≡ 0) ⊎ (o ≡ 2 ^ (b - 1)) → o < 2 ^ b
 offset-lt b o some (inl e) = omega (arith, pow-pos b)
 offset-lt b o some (inr e) = omega (arith, doubled b some, pow-pos (b - 1))
 

@@ -1,12 +1,12 @@
 -- The word's lane and element have their row and column by the rule, and the sums there are exact. Assumes nothing.
 use borrow.Author.Needs.{needs}
 use mathlib.Core.Path.{_≡_, sym, ap, ap₂, subst, _∙_}
-use Prim.Native.Nat.{ℕ, _+_, _*_, _/_, _%_, _<_, _≤_}
+use Prim.Native.Nat.{ℕ, _+_, _*_, _/_, _%_, _<_}
 use native.Mathlib.Nat.{div-add-mod'}
 use native.Mathlib.Omega.{arith}
 use denote.Ref.{now}
 use lib.IntN.{subℕ}
-use lib.ListN.{length, getD}
+use lib.ListN.{getD}
 use Rattle.kinds.specs.Kinds.{lanes}
 use Rattle.kinds.specs.Rule.{major, minor, minors}
 use Rattle.kinds.proofs.Digits.{major-lt, minor-lt}

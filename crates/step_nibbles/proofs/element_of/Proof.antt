@@ -1,7 +1,7 @@
 -- The elements of a lane are its pairs, one after the other. Assumes nothing.
 use borrow.Author.Needs.{needs}
 use mathlib.Core.Path.{_≡_, sym, ap, _∙_}
-use Prim.Native.Nat.{ℕ, _+_, _*_, _/_, _%_, _<_}
+use Prim.Native.Nat.{ℕ, _+_, _*_, _%_, _<_}
 use native.Mathlib.Nat.{mul-comm, mod-lt}
 use native.Mathlib.Omega.{arith}
 use lib.Arith.{mod-mul}

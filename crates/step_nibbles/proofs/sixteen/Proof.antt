@@ -1,6 +1,6 @@
 -- The sums under the planes are put together by weight; the digits are added as they are. Assumes nothing.
 use borrow.Author.Needs.{needs}
-use mathlib.Core.Path.{_≡_, _∙_}
+use mathlib.Core.Path.{_∙_}
 use native.Mathlib.Omega.{arith}
 use denote.Ref.{now}
 use Rattle.step_nibbles.proofs.Sixteens.{products-are}

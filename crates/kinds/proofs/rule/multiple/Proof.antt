@@ -1,7 +1,6 @@
 -- By ones or by twos. Assumes nothing.
 use borrow.Author.Needs.{needs}
 use mathlib.Core.Path.{_≡_}
-use Prim.Native.Nat.{ℕ, _*_, _≤_}
 use native.Mathlib.Omega.{arith}
 use Rattle.kinds.proofs.rule.multiple.Statement.{statement}
 use Rattle.kinds.proofs.rule.multiple.Tie as tie

@@ -1,7 +1,7 @@
 -- A bit is nought or one. Assumes nothing.
 use borrow.Author.Needs.{needs}
 use mathlib.Core.Path.{_≡_}
-use Prim.Native.Nat.{ℕ, _*_, _<_, _≤_}
+use Prim.Native.Nat.{ℕ, _*_, _<_}
 use native.Mathlib.Omega.{arith}
 use Rattle.step_nibbles.proofs.shifts.under.Statement.{statement}
 use Rattle.step_nibbles.proofs.shifts.under.Tie as tie
