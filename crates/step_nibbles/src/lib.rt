@@ -39,7 +39,7 @@ pub fn digits(words: &[u32], out: &mut [u8; 1024], side: Layout, offset: u64)
     ensures { λ _. ⌜ Digits side offset (now (words .entry)) (now (out .exit)) ⌝ }
 {
     let mask = mask_of(offset);
-    step_products::put_digits(words, out, 4, 8, side.spans, side.halves, mask);
+    step_products::put_digits(words, out, 4, side.spans, side.halves, mask);
 }
 
 // The sums of sixteen digits from i on and sixteen from j on.

@@ -62,21 +62,21 @@ module _ (f : Layout) (mask : ℕ) (ws : List ℕ) where
       ∙ xor-digit b v offset (ok .width .pos) (element-lt b (f .words) ws (laneOf p x y) i) sign
 
 -- the digits of a side whose width is known
-module _ (side : Layout) (b p : ℕ) (ws xs : List ℕ) (ok : Digitised (straight side) ws xs) (width : side .bits ≡ b) (abreast : 32 / b ≡ p) where
+module _ (side : Layout) (b : ℕ) (ws xs : List ℕ) (ok : Digitised (straight side) ws xs) (width : side .bits ≡ b) where
   abbrev pub known : Layout
-  known = shape b (side .spans * side .halves) p (side .halves) (side .spans) false
+  known = shape b (side .spans * side .halves) (32 / b) (side .halves) (side .spans) false
 
   is : straight side ≡ known
   is =
       let narrow : side .bits < 32 = omega (arith, ok .narrow) in
-      let e : side .side ≡ p = ok .laid .narrow-side narrow ∙ ap (λ (b : ℕ). 32 / b) width ∙ abreast in
+      let e : side .side ≡ 32 / b = ok .laid .narrow-side narrow ∙ ap (λ (b : ℕ). 32 / b) width in
       let words = words-are (straight side) (ok .laid) narrow in
       rw (words, width, e) refl
 
   pub known-digitised : Digitised known ws xs
   known-digitised = subst (λ (f : Layout). Digitised f ws xs) is ok
 
-  pub known-digits : (mask offset : ℕ) (ys : List ℕ) → mask ≡ joined b p (λ j. offset) → (offset ≡ 0) ⊎ (offset ≡ 2 ^ (side .bits - 1))
+  pub known-digits : (mask offset : ℕ) (ys : List ℕ) → mask ≡ joined b (32 / b) (λ j. offset) → (offset ≡ 0) ⊎ (offset ≡ 2 ^ (side .bits - 1))
       → Brings (masked known mask ws) (λ z. z < majors known * minors known) xs ys → Digits side offset ws ys
   known-digits mask offset ys e sign brings =
       subst (λ (f : Layout). Digits f offset ws ys) (sym is)

@@ -121,21 +121,21 @@ fn word_at(spans: usize, halves: usize, t: usize) -> usize
     kinds::rule::multiple(halves, kinds::rule::multiple(spans, lane) + span) + major / 8
 }
 
-// The fields of every word, one word's after another's, with the bits turned over that the mask has. It is called with the bits and the side written
-// out, so that the compiler, which then lays it into its caller, multiplies by powers of two alone.
+// The fields of every word, one word's after another's, with the bits turned over that the mask has. It is called with its bits written out: the compiler,
+// which then lays it into its caller, multiplies by powers of two alone.
 pub fn put_digits(
     words: &[u32],
     out: &mut [u8; 1024],
     bits: usize,
-    side: usize,
     spans: usize,
     halves: usize,
     mask: u32,
 )
-    requires { ⌜ Digitised (shape bits (spans * halves) side halves spans false) (now words) (now out) ⌝ }
-    ensures { λ _. ⌜ Brings (masked (shape bits (spans * halves) side halves spans false) mask (now (words .entry)))
-        (λ z. z < halves * 8 * (spans * 4 * side)) (now (out .entry)) (now (out .exit)) ⌝ }
+    requires { ⌜ Digitised (shape bits (spans * halves) (32 / bits) halves spans false) (now words) (now out) ⌝ }
+    ensures { λ _. ⌜ Brings (masked (shape bits (spans * halves) (32 / bits) halves spans false) mask (now (words .entry)))
+        (λ z. z < halves * 8 * (spans * 4 * (32 / bits))) (now (out .entry)) (now (out .exit)) ⌝ }
 {
+    let side = 32 / bits;
     for t in 0..words.len() {
         let turned = word(words[word_at(spans, halves, t)] ^ mask);
         digits_of(out, turned, bits, side, t * side);
@@ -149,7 +149,7 @@ pub fn digits(words: &[u32], out: &mut [u8; 1024], side: Layout, offset: u64)
     ensures { λ _. ⌜ Digits side offset (now (words .entry)) (now (out .exit)) ⌝ }
 {
     let mask = mask_of(offset);
-    put_digits(words, out, 8, 4, side.spans, side.halves, mask);
+    put_digits(words, out, 8, side.spans, side.halves, mask);
 }
 
 // The words of D that a lane holds.

@@ -20,20 +20,20 @@ use Rattle.step_products.proofs.Rows as rows
 use Rattle.step_products.proofs.put_digits.Statement.{statement}
 use Rattle.step_products.proofs.put_digits.Tie as tie
 
-abbrev laid : (bits side spans halves : ℕ) → Layout
-laid bits side spans halves = shape bits (spans * halves) side halves spans false
+abbrev laid : (bits spans halves : ℕ) → Layout
+laid bits spans halves = shape bits (spans * halves) (32 / bits) halves spans false
 
 abbrev Fields : (side : ℕ) → ℕ → ℕ → Type 0
 Fields p t = Below p (λ j. At (t * p + j))
 
 abbrev Inv-loop : tie.InvT-loop
-Inv-loop words out₀ bits side spans halves mask t₀ t-end out t = (t ≤ length words) × Brings (masked (laid bits side spans halves) mask words) (Below t (Fields side)) out₀ out
+Inv-loop words out₀ bits spans halves mask side t₀ t-end out t = (t ≤ length words) × Brings (masked (laid bits spans halves) mask words) (Below t (Fields (32 / bits))) out₀ out
 
 abbrev μ-loop : tie.MeasureT-loop
-μ-loop words out₀ bits side spans halves mask t₀ t-end out t = length words - t
+μ-loop words out₀ bits spans halves mask side t₀ t-end out t = length words - t
 
 abbrev of : tie.Start Inv-loop μ-loop → Layout
-of s = laid (s .args .bits) (s .args .side) (s .args .spans) (s .args .halves)
+of s = laid (s .args .bits) (s .args .spans) (s .args .halves)
 
 module _ (c : tie.In-loop Inv-loop μ-loop) where
   abbrev S : tie.Start Inv-loop μ-loop
@@ -59,7 +59,7 @@ module _ (c : tie.After-word-at Inv-loop μ-loop) where
   inside = subst (λ (n : ℕ). n < length (now (s .args .words))) (sym (c .word-at .ensures)) (rows.word-in (of s) (now (s .args .words)) (now (s .args .out)) (s .pre) 0 (t (c .before)) (among (c .before)))
 
 loop-holds : tie.Need-loop-holds Inv-loop μ-loop
-loop-holds c = let s = c .before in let a = s .args in (omega arith, brings-none (masked (of s) (a .mask) (now (a .words))) (Fields (a .side)) (now (a .out)))
+loop-holds c = let s = c .before in let a = s .args in (omega arith, brings-none (masked (of s) (a .mask) (now (a .words))) (Fields (32 / a .bits)) (now (a .out)))
 
 word-at-requires : tie.Need-word-at-requires Inv-loop μ-loop
 word-at-requires c κs = let k = S c .pre .laid in (k .spans-pos, k .spans-le, k .halves-pos, k .halves-le, among c)
@@ -82,7 +82,7 @@ loop-again c =
     let i = w .before in
     let a = S i .args in
     let l = i .before .loop in
-    let p = a .side in
+    let p = 32 / a .bits in
     let b = a .bits in
     let ws = now (a .words) in
     let u = masked (f i) (a .mask) ws in
@@ -104,7 +104,7 @@ returns c =
     let l = c .before .loop in
     let q = c .before .before .before in
     let a = q .args in
-    let p = a .side in
+    let p = 32 / a .bits in
     let ws = now (a .words) in
     let all : l .t ≡ lanes * (a .spans * a .halves) = omega (arith, q .pre .words) in
     brings-on (masked (of q) (a .mask) ws) (Below (l .t) (Fields p)) (λ z. z < majors (of q) * minors (of q)) (now (a .out)) (l .out)
@@ -116,6 +116,7 @@ put-digits-spec =
     (tie.spec
     Inv-loop
     μ-loop
+    (λ c. c .before .pre .laid .width .pos)
     loop-holds
     word-at-requires
     mul-word
