@@ -1,6 +1,6 @@
 -- The one rule is one to one, once over p and h: the digits of lane and element are those of the major and the minor number, put
 -- together in another order. Assumes nothing.
-use mathlib.Core.Path.{_≡_, sym, ap, _∙_}
+use mathlib.Core.Path.{_≡_, refl, sym, ap, _∙_}
 use Prim.Native.Nat.{ℕ, _+_, _*_, _/_, _%_, _≤_, _<_}
 use native.Mathlib.Nat.{div-add-mod', mod-lt, div-lt-iff-lt-mul, div-le-self, le-trans, mul-le-mul-right, mul-le-mul-left, mul-le-mul, add-mul, mul-assoc, mul-comm}
 use native.Mathlib.Omega.{arith}
@@ -88,6 +88,24 @@ module _ (p h : ℕ) (p0 : 0 < p) (h0 : 0 < h) where
   pub element-lt : (s x y : ℕ) → x < h * 8 → y < s * 4 * p → elementOf p h x y < s * h * p
   unfolding elementOf
   element-lt s x y xl yl = digits-lt (group-lt s x y xl yl) (mod-lt y p0)
+
+-- the words lie by the rule as the elements do, one side by side: field j of word q of a major number x
+module _ (p halves x q j : ℕ) (h : j < p) where
+  high : (q * p + j) / p ≡ q
+  high = digits-div q h
+
+  same : q / 1 ≡ q
+  same = omega arith
+
+  pub word-lane : laneOf p x (q * p + j) ≡ laneOf 1 x q
+  unfolding laneOf
+  word-lane = rw (high, same) refl
+
+  pub word-element : elementOf p halves x (q * p + j) ≡ elementOf 1 halves x q * p + j
+  unfolding elementOf
+  word-element =
+      let none : (q / 4 * halves + x / 8) * 1 + q % 1 ≡ q / 4 * halves + x / 8 = omega arith in
+      rw (high, digits-mod q h, same, none) refl
 
 -- what is put together of digits stays small: over a quotient a of n by p
 module _ (n p : ℕ) where

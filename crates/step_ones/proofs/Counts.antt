@@ -18,7 +18,7 @@ use Rattle.laws.proofs.Fields.{field-field, field-joined}
 use Rattle.laws.proofs.Lists.{length-tab, getD-tab, is-tab, tab-ext}
 use Rattle.kinds.specs.Kinds.{lanes}
 use Rattle.kinds.specs.Rule.{laneOf, elementOf, major, minor}
-use Rattle.kinds.proofs.Digits.{lane-lt, element-lt, major-lt, minor-lt}
+use Rattle.kinds.proofs.Digits.{lane-lt, element-lt, major-lt, minor-lt, word-lane, word-element}
 use Rattle.buffers.specs.Buffers.{elementAt}
 use Rattle.buffers.proofs.Elements.{element-field}
 use Rattle.step_limit.specs.Limits.{cellOf}
@@ -78,22 +78,10 @@ module _ (spans halves x q : ℕ) (h0 : 0 < halves) (hx : x < halves * 8) (hq : 
 
 -- it holds the bits from 32 q on
 module _ (spans halves x q : ℕ) (ws : List ℕ) (j : ℕ) (l : j < 32) where
-  lane-is : laneOf 32 x (32 * q + j) ≡ laneOf 1 x q
-  unfolding laneOf
-  lane-is = let high : (32 * q + j) / 32 ≡ q = omega arith in rw high (omega arith)
-
-  element-is : elementOf 32 halves x (32 * q + j) ≡ elementOf 1 halves x q * 32 + j
-  unfolding elementOf
-  element-is =
-      let high : (32 * q + j) / 32 ≡ q = omega arith in
-      let low : (32 * q + j) % 32 ≡ j = omega arith in
-      let same : q / 1 ≡ q = omega arith in
-      rw (high, low, same) (omega arith)
-
-  bit-is : getD ws (wordAt spans halves x q) 0 / 2 ^ j % 2 ≡ elementAt 1 (spans * halves) ws (laneOf 32 x (32 * q + j)) (elementOf 32 halves x (32 * q + j))
+  bit-is : getD ws (wordAt spans halves x q) 0 / 2 ^ j % 2 ≡ elementAt 1 (spans * halves) ws (laneOf 32 x (q * 32 + j)) (elementOf 32 halves x (q * 32 + j))
   unfolding field
   bit-is =
-      rw (lane-is, element-is)
+      rw (word-lane 32 halves x q j l, word-element 32 halves x q j l)
       (sym (element-field (spans * halves) ws (laneOf 1 x q) 1 32 (elementOf 1 halves x q) j (omega arith) l
       ∙ ap (λ (i : ℕ). getD ws (wordAt spans halves x q) 0 / 2 ^ i % 2) (one-mul j)))
 
@@ -105,7 +93,7 @@ line-bit spans halves ws x k hx hk =
     let n = spans * 4 in
     let q = k / 32 in
     let hq : q < n = omega arith in
-    let whole : 32 * (k / 32) + k % 32 ≡ k = omega arith in
+    let whole : k / 32 * 32 + k % 32 ≡ k = omega arith in
     let word : ℕ → ℕ → ℕ = λ x q. getD ws (wordAt spans halves x q) 0 in
     ap (λ (w : ℕ). w / 2 ^ (k % 32) % 2)
     (getD-tab (halves * 8 * n) (blocks n word) (x * n + q) 0 (digits-lt hx hq) ∙ ap₂ word (digits-div x hq) (digits-mod x hq))
@@ -115,7 +103,7 @@ line-bit spans halves ws x k hx hk =
 -- and so is bit k of a column
 pub column-bit : (spans : ℕ) (b : List ℕ) (column k : ℕ) → bitOf spans b column k ≡ elementAt 1 spans b (laneOf 32 column k) (elementOf 32 1 column k)
 column-bit spans b column k =
-    let whole : 32 * (k / 32) + k % 32 ≡ k = omega arith in
+    let whole : k / 32 * 32 + k % 32 ≡ k = omega arith in
     let each : spans * 1 ≡ spans = omega arith in
     bit-is spans 1 column (k / 32) b (k % 32) (omega arith)
     ∙ ap₂ (λ (w k : ℕ). elementAt 1 w b (laneOf 32 column k) (elementOf 32 1 column k)) each whole

@@ -1,6 +1,6 @@
 -- The words of a side by its major numbers: word t has the quotient of t by a row's words for its major number, and the remainder for its place
 -- there. They lie by the rule as the elements do; so the fields of a word stand side by side in the masked matrix. Assumes nothing.
-use mathlib.Core.Path.{_≡_, refl, sym, ap, ap₂, subst, _∙_}
+use mathlib.Core.Path.{_≡_, sym, ap, ap₂, subst, _∙_}
 use mathlib.Core.List.{List}
 use Prim.Native.Nat.{ℕ, _+_, _*_, _/_, _%_, _<_, _≤_}
 use native.Mathlib.Nat.{div-add-mod', add-mul, mul-assoc, mul-comm, mod-lt, div-lt-iff-lt-mul}
@@ -13,7 +13,7 @@ use Rattle.laws.proofs.Lists.{block-le}
 use Rattle.kinds.specs.Kinds.{lanes}
 use Rattle.kinds.specs.Rule.{majors, minors, laneOf, elementOf}
 use Rattle.kinds.specs.declared.Layout.{Layout}
-use Rattle.kinds.proofs.Digits.{lane-lt, element-lt}
+use Rattle.kinds.proofs.Digits.{lane-lt, element-lt, word-lane, word-element}
 use Rattle.buffers.proofs.Elements.{element-field}
 use Rattle.buffers.proofs.Places.{stretch-fills}
 use Rattle.step_products.specs.Sums.{masked, xorIn, Digitised}
@@ -50,24 +50,6 @@ stands-at spans halves t some =
     let none : (span * 4 + t % 4) % 1 ≡ 0 = omega arith in
     rw (quotient-by t spans 4 some four, mod-mul t some four, same, none, high, low)
     (omega (arith, add-mul (lane * spans) span halves, mul-assoc lane spans halves))
-
--- field j of word q of a major number x
-module _ (p halves x q j : ℕ) (h : j < p) where
-  high : (q * p + j) / p ≡ q
-  high = digits-div q h
-
-  same : q / 1 ≡ q
-  same = omega arith
-
-  pub lane-is : laneOf p x (q * p + j) ≡ laneOf 1 x q
-  unfolding laneOf
-  lane-is = rw (high, same) refl
-
-  pub element-is : elementOf p halves x (q * p + j) ≡ elementOf 1 halves x q * p + j
-  unfolding elementOf
-  element-is =
-      let none : (q / 4 * halves + x / 8) * 1 + q % 1 ≡ q / 4 * halves + x / 8 = omega arith in
-      rw (high, digits-mod q h, same, none) refl
 
 -- a side's words
 all-words : (spans halves : ℕ) → lanes * (spans * halves) ≡ halves * 8 * (spans * 4)
@@ -132,6 +114,6 @@ module _ (f : Layout) (ws out : List ℕ) (ok : Digitised f ws out) where
         field-xor b j (getD ws word 0) mask
         ∙ ap₂ (λ (v i : ℕ). bitXor v (field b i mask))
         (ap (λ (n : ℕ). field b j (getD ws (laneOf 1 row at * n + e) 0)) (sym (words-are f (ok .laid) narrow)) ∙ sym (element-field (f .words) ws (laneOf 1 row at) b p e j (stretch-fills f (ok .laid) narrow) hj)) (sym (digits-mod e hj))
-        ∙ sym (ap₂ (xorIn f mask ws) (lane-is p (f .halves) row at j hj) (element-is p (f .halves) row at j hj))
+        ∙ sym (ap₂ (xorIn f mask ws) (word-lane p (f .halves) row at j hj) (word-element p (f .halves) row at j hj))
         ∙ sym (masked-entry f mask ws row y row-in (digits-lt at-in hj))
         ∙ ap (λ (z : ℕ). getD (masked f mask ws) z 0) place
