@@ -1,20 +1,23 @@
 -- Demand 1, once for every call. Assumes nothing.
-use mathlib.Core.Path.{_≡_, refl, sym, ap, ap₂, _∙_}
-use mathlib.Core.Bool.{Bool, true, false, false≢true}
+use mathlib.Core.Path.{_≡_, refl, sym, ap, ap₂, subst, _∙_}
+use mathlib.Core.Bool.{Bool, true, false, not, _&&_, false≢true}
 use mathlib.Core.Logic.{_↔_, _⊎_, inl, inr}
 use mathlib.Core.List.{List, [], _∷_}
 use Prim.Native.Nat.{ℕ}
-use Rattle.laws.specs.Choice.{if_then_else_}
+use lib.Dec.{T, T-not, eqb-refl}
+use Rattle.laws.specs.Choice.{if_then_else_, _=?_}
+use Rattle.laws.proofs.Every.{left, right}
 use Rattle.answers.specs.Tests.{holds}
 use Rattle.answers.specs.Refusals.{Answer, given, refusal, told, after}
-use Rattle.answers.specs.Calls.{Line, first, Call, answer, judgement, leftBy, Gives, NoneSays}
+use Rattle.answers.specs.Calls.{Line, _then_, first, Call, answer, judgement, leftBy, Gives, NoneSays}
+use Rattle.answers.specs.Right.{Right, Passes}
 use Rattle.answers.specs.Contracts.{Meets, Replies, Coded}
 use Rattle.answers.specs.declared.Refusal.{Refusal}
 use Rattle.answers.specs.declared.Verdict.{Verdict}
 use Rattle.answers.specs.declared.Verdict.the-variants.{Accepted, Refused}
 use Rattle.answers.proofs.Refusals.{one-verdict}
-use Rattle.answers.proofs.Words.{says}
-use Rattle.answers.proofs.Shows.{never, to-first, told-is}
+use Rattle.answers.proofs.Words.{says, says-not}
+use Rattle.answers.proofs.Shows.{never, to-first, told-is, denied, deny, passed, passing}
 
 -- one line before the rest
 module _ {X : Type 0} {P G : Type 0} (m c n d : ℕ) (rest : Answer X) where
@@ -49,6 +52,25 @@ module _ {X : Type 0} (x : X) where
   given-by [] = (λ e. tt, λ z. refl)
   given-by (l ∷ ls) = line-given (l .number) (l .detail) x (first ls x) (holds (l .test)) (says (l .test)) (given-by ls)
 
+-- no line has this number
+abbrev pub lacks : (n : ℕ) → List Line → Bool
+lacks n [] = true
+lacks n (l ∷ ls) = not (l .number =? n) && lacks n ls
+
+-- After lines of other numbers, a number is given exactly when these are passed and the rest gives it.
+module _ (rest : List Line) (n d : ℕ) where
+  line-after : (l : Line) (ls : List Line) → T (not (l .number =? n)) → Gives (ls then rest) n d ↔ (Passes ls × Gives rest n d)
+      → Gives (l ∷ (ls then rest)) n d ↔ (Passes (l ∷ ls) × Gives rest n d)
+  line-after l ls h later = (there, λ g. inr (says-not (l .test) .0 (deny (l .test) (g .0 .0)), later .1 (g .0 .1, g .1)))
+    where
+      there : Gives (l ∷ (ls then rest)) n d → Passes (l ∷ ls) × Gives rest n d
+      there (inl x) = absurd (T-not (l .number =? n) h (subst (λ (k : ℕ). T (l .number =? k)) (x .1) (eqb-refl (l .number))))
+      there (inr x) = let g = later .0 (x .1) in ((denied (l .test) (says-not (l .test) .1 (x .0)), g .0), g .1)
+
+  pub gives-after : (ls : List Line) → T (lacks n ls) → Gives (ls then rest) n d ↔ (Passes ls × Gives rest n d)
+  gives-after [] h = (λ g. (tt, g), λ g. g .1)
+  gives-after (l ∷ ls) h = line-after l ls (left (not (l .number =? n)) (lacks n ls) h) (gives-after ls (right (not (l .number =? n)) (lacks n ls) h))
+
 module _ {X : Type 0} (call : Call X) where
   -- A call is refused with a number and a detail exactly when the first of its lines that says so has them,
   pub refused-when : (n d : ℕ) → (answer call ≡ refusal n d) ↔ Gives (call .refusals) n d
@@ -75,6 +97,13 @@ module _ {X : Type 0} {call : Call X} {old : X} {verdict : Verdict} {left : X} (
   accepted-when = (
     λ e. given-by tt (call .refusals) .0 (sym verdict-is ∙ ap told e),
     λ g. one-verdict verdict Accepted (given tt) (verdict-is ∙ given-by tt (call .refusals) .1 g) refl,
+  )
+
+  -- In other words: exactly when every line is passed.
+  pub accepted-passing : (verdict ≡ Accepted) ↔ Passes (call .refusals)
+  accepted-passing = (
+    λ e. passed (call .refusals) (subst (λ (v : Verdict). Right (call .refusals) (told v)) e (m .verdict-right)),
+    λ p. one-verdict verdict Accepted (given tt) (verdict-is ∙ passing (call .refusals) tt p) refl,
   )
 
   -- A refused one leaves what was there,

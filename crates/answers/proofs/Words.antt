@@ -1,5 +1,5 @@
 -- A test holds exactly when it says so, and the first index of a `somewhere`. Assumes nothing.
-use mathlib.Core.Path.{_≡_, refl, sym, ap, _∙_}
+use mathlib.Core.Path.{_≡_, refl, sym, ap, subst, _∙_}
 use mathlib.Core.Bool.{Bool, true, false, not, _&&_, _||_, false≢true}
 use mathlib.Core.Logic.{_↔_, _⊎_, inl, inr}
 use Prim.Native.Nat.{ℕ, zero, suc, _<_, _≤_, zero-le, suc-le-suc}
@@ -119,6 +119,17 @@ first-index n t i l = (there, back)
 
     back : Says (t i) × ((j : ℕ) → j < i → ¬ Says (t j)) → firstOf n t ≡ i
     back x = sym (first-is n (λ k. holds (t k)) i l (says (t i) .1 (x .0)) (λ j m. says-not (t j) .1 (x .1 j m)))
+
+-- 'somewhere, with the first index': it says so with this index exactly when this one says so and no earlier one does
+pub first-somewhere : (n : ℕ) (t : ℕ → Test) (i : ℕ)
+    → (Says (somewhere n t) × (firstOf n t ≡ i)) ↔ ((i < n) × Says (t i) × ((j : ℕ) → j < i → ¬ Says (t j)))
+first-somewhere n t i = (there, λ y. ((i, y .0, y .1), first-index n t i (y .0) .1 (y .1, y .2)))
+  where
+    there : Says (somewhere n t) × (firstOf n t ≡ i) → (i < n) × Says (t i) × ((j : ℕ) → j < i → ¬ Says (t j))
+    there x =
+        let l = subst (λ (k : ℕ). k < n) (x .1) (ltb-true (firstOf n t) n (says (somewhere n t) .1 (x .0))) in
+        let f = first-index n t i l .0 (x .1) in
+        (l, f .0, f .1)
 
 -- What a loop that looks for it has: the index where it stopped, or the end.
 module _ (n : ℕ) (t : ℕ → Test) where
