@@ -38,7 +38,8 @@ enum {
     WZ_TOO_WIDE = 7, /* detail: index of the first entry that does not fit */
     WZ_BAD_SCALE = 8, /* detail: which selector, counted from 0 */
     WZ_RUN_FULL = 9,
-    WZ_BAD_RUN = 10
+    WZ_BAD_RUN = 10,
+    WZ_SCALE_NAN = 12 /* a chosen byte is 255; detail: index of the first in the output */
 };
 
 /* Words of a run: kind, signs, mode, number of accepted blocks, then 128 sums in D's warp buffer order. */
@@ -75,7 +76,8 @@ uint64_t wz_feed(uint32_t run[WZ_RUN_WORDS], const uint32_t *a, size_t na, const
 /* The used sums of a run, into D. */
 uint64_t wz_read(const uint32_t run[WZ_RUN_WORDS], uint32_t *d, size_t nd);
 
-/* The exponents of the chosen scale bytes: lanes ascending, low byte first, each byte less 127. */
+/* The exponents of the chosen scale bytes, -127 to 127: lanes ascending, low byte first, each byte less 127. 255 is not a number: in a
+   chosen byte it is refused, and in another it does not matter. */
 uint64_t wz_scale(uint32_t size, uint32_t side, uint32_t byte_id, uint32_t thread_id, const uint32_t *metadata, size_t nm, int32_t *out,
                   size_t no);
 

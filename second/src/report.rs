@@ -37,8 +37,8 @@ pub fn shown(answer: u64) -> String {
 pub struct Tally {
     name: &'static str,
     accepted: u64,
-    /// By refusal number, 1 to 10.
-    refused: [u64; 11],
+    /// By refusal number, 1 to 12.
+    refused: [u64; 13],
 }
 
 impl Tally {
@@ -46,7 +46,7 @@ impl Tally {
         Tally {
             name,
             accepted: 0,
-            refused: [0; 11],
+            refused: [0; 13],
         }
     }
 

@@ -7,14 +7,14 @@ use lib.ListN.{getD}
 use Rattle.laws.proofs.Unique.{one-answer}
 use Rattle.answers.specs.Refusals.{Answer, given, refusal, numberOf, detailOf, told}
 use Rattle.answers.specs.declared.Refusal.{Refusal}
-use Rattle.answers.specs.declared.Refusal.the-variants.{UnknownKind, UnknownRole, NotArithmetic, BadSelectors, WrongLength, Outside, TooWide, BadScale, RunFull, BadRun}
+use Rattle.answers.specs.declared.Refusal.the-variants.{UnknownKind, UnknownRole, NotArithmetic, BadSelectors, WrongLength, Outside, TooWide, BadScale, RunFull, BadRun, ScaleNan}
 use Rattle.answers.specs.declared.Verdict.{Verdict}
 use Rattle.answers.specs.declared.Verdict.the-variants.{Accepted, Refused}
 
 -- no two of the enum have the same
 pub refusalOf : ℕ → ℕ → Refusal
 refusalOf n d =
-    getD (UnknownKind ∷ UnknownKind ∷ UnknownRole ∷ NotArithmetic ∷ BadSelectors ∷ WrongLength d ∷ Outside ∷ TooWide d ∷ BadScale d ∷ RunFull ∷ BadRun ∷ []) n UnknownKind
+    getD (UnknownKind ∷ UnknownKind ∷ UnknownRole ∷ NotArithmetic ∷ BadSelectors ∷ WrongLength d ∷ Outside ∷ TooWide d ∷ BadScale d ∷ RunFull ∷ BadRun ∷ UnknownKind ∷ ScaleNan d ∷ []) n UnknownKind
 
 pub refusal-back : (f : Refusal) → refusalOf (numberOf f) (detailOf f) ≡ f
 unfolding refusalOf
@@ -28,9 +28,10 @@ refusal-back (TooWide i) = refl
 refusal-back (BadScale s) = refl
 refusal-back RunFull = refl
 refusal-back BadRun = refl
+refusal-back (ScaleNan i) = refl
 
--- every number is 1 to 10
-pub number-range : (f : Refusal) → (0 < numberOf f) × (numberOf f ≤ 10)
+-- every number is 1 to 12
+pub number-range : (f : Refusal) → (0 < numberOf f) × (numberOf f ≤ 12)
 number-range UnknownKind = (omega arith, omega arith)
 number-range UnknownRole = (omega arith, omega arith)
 number-range NotArithmetic = (omega arith, omega arith)
@@ -41,6 +42,7 @@ number-range (TooWide i) = (omega arith, omega arith)
 number-range (BadScale s) = (omega arith, omega arith)
 number-range RunFull = (omega arith, omega arith)
 number-range BadRun = (omega arith, omega arith)
+number-range (ScaleNan i) = (omega arith, omega arith)
 
 verdictOf : Answer (Unit {0}) → Verdict
 verdictOf (given x) = Accepted

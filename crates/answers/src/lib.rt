@@ -14,10 +14,11 @@ pub enum Refusal {
     BadScale(u32),
     RunFull,
     BadRun,
+    ScaleNan(u32),
 }
 
 impl Refusal {
-    // Document 01's number.
+    // Its number: document 01's, or of ScaleNan document 02's.
     pub fn number(self) -> u32
         ensures { λ r. ⌜ r ≡ numberOf self ⌝ }
     {
@@ -32,10 +33,11 @@ impl Refusal {
             Refusal::BadScale(_) => 8,
             Refusal::RunFull => 9,
             Refusal::BadRun => 10,
+            Refusal::ScaleNan(_) => 12,
         }
     }
 
-    // Its detail: which buffer, which entry, which selector.
+    // Its detail: which buffer, which entry, which selector, which number of the output.
     pub fn detail(self) -> u32
         ensures { λ r. ⌜ r ≡ detailOf self ⌝ }
     {
@@ -50,6 +52,7 @@ impl Refusal {
             Refusal::BadScale(selector) => selector,
             Refusal::RunFull => 0,
             Refusal::BadRun => 0,
+            Refusal::ScaleNan(index) => index,
         }
     }
 }
