@@ -109,7 +109,7 @@ fn scale(random: &mut Random, size: u32, side: u32) -> Case {
     let threads = [2, 4][side as usize];
     let chosen = inputs(|turn| {
         let (byte_id, thread_id) = (random.below(4 / size) * size, turn as u32 % threads);
-        ([size, side, byte_id, thread_id], random.words(32))
+        ([size, side, byte_id, thread_id], numbers(random))
     });
     let mut out = vec![0; (32 / threads * size) as usize];
     let name = format!("scale, size {size}, side {}", ["A", "B"][side as usize]);
@@ -117,6 +117,12 @@ fn scale(random: &mut Random, size: u32, side: u32) -> Case {
         let (selectors, metadata) = &chosen[turn];
         calls.scale(*selectors, metadata, &mut out)
     })
+}
+
+/// Metadata in which no byte is 255.
+fn numbers(random: &mut Random) -> Vec<u32> {
+    let mut word = || (0..4).fold(0, |word, _| word << 8 | random.below(255));
+    (0..32).map(|_| word()).collect()
 }
 
 fn warp(random: &mut Random, kind: u32, role: u32) -> Vec<u32> {

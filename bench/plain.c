@@ -412,12 +412,19 @@ uint64_t plain_c_scale(uint32_t size, uint32_t side, uint32_t byte_id, uint32_t 
         return refusal(WZ_WRONG_LENGTH, 0);
     if (no != (side == 0 ? 16 : 8) * size)
         return refusal(WZ_WRONG_LENGTH, 1);
+    uint8_t chosen[LANES / 2 * 4];
+    size_t n = 0;
     for (size_t lane = 0; lane < LANES; lane++) {
         size_t t = lane % QUAD;
         if ((side == 0 ? t / 2 : t) != thread_id)
             continue;
         for (size_t byte = byte_id; byte < byte_id + size; byte++)
-            *out++ = (int32_t)(metadata[lane] >> 8 * byte & 0xff) - 127;
+            chosen[n++] = metadata[lane] >> 8 * byte & 0xff;
     }
+    const uint8_t *nan = memchr(chosen, 0xff, n);
+    if (nan)
+        return refusal(WZ_SCALE_NAN, nan - chosen);
+    for (size_t i = 0; i < n; i++)
+        out[i] = (int32_t)chosen[i] - 127;
     return 0;
 }

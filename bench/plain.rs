@@ -3,8 +3,8 @@
 //! the same answer, refuses the same and writes the same.
 
 use crate::wazimroot::{
-    BAD_RUN, BAD_SCALE, BAD_SELECTORS, MAX_BLOCKS, NOT_ARITHMETIC, RUN_FULL, RUN_WORDS, TOO_WIDE,
-    UNKNOWN_KIND, UNKNOWN_ROLE, WRONG_LENGTH,
+    BAD_RUN, BAD_SCALE, BAD_SELECTORS, MAX_BLOCKS, NOT_ARITHMETIC, RUN_FULL, RUN_WORDS, SCALE_NAN,
+    TOO_WIDE, UNKNOWN_KIND, UNKNOWN_ROLE, WRONG_LENGTH,
 };
 use std::slice::{from_raw_parts, from_raw_parts_mut};
 
@@ -462,6 +462,8 @@ fn scale(
     judge_length(metadata.len(), LANES, 0)?;
     let lanes = if side == 0 { 16 } else { 8 };
     judge_length(out.len(), lanes * size as usize, 1)?;
+    let mut chosen = [0; LANES / 2 * 4];
+    let chosen = &mut chosen[..out.len()];
     let mut at = 0;
     for (lane, word) in metadata.iter().enumerate() {
         let t = (lane % QUAD) as u32;
@@ -469,9 +471,15 @@ fn scale(
             continue;
         }
         for byte in byte_id..byte_id + size {
-            out[at] = (word >> (8 * byte) & 0xff) as i32 - 127;
+            chosen[at] = (word >> (8 * byte)) as u8;
             at += 1;
         }
+    }
+    if let Some(nan) = chosen.iter().position(|&byte| byte == 255) {
+        return refused(SCALE_NAN, nan as u32);
+    }
+    for (number, &byte) in out.iter_mut().zip(chosen.iter()) {
+        *number = i32::from(byte) - 127;
     }
     Ok(())
 }

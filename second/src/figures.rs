@@ -70,6 +70,10 @@ const SCALES: [(u32, u32, &[i32]); 5] = [
     (2, 2, &[0, 1]),
 ];
 
+/// K4: size, byte-id; the number of a lane with the metadata word FF7F0100.
+const SCALES_BESIDE_A_NAN: [(u32, u32, &[i32]); 3] =
+    [(1, 0, &[-127]), (1, 1, &[-126]), (1, 2, &[0])];
+
 /// Lane words of the record whose byte j is j: word number, content.
 const TEMPLATE: [(usize, u32); 5] = [
     (0, 0x1810_0800),
@@ -175,21 +179,58 @@ fn most_ones(calls: &dyn Calls) -> Result<(), Difference> {
     run_sums(calls, &run, 1_048_576)
 }
 
-fn scales(calls: &dyn Calls) -> Result<(), Difference> {
-    let metadata = [0x807f_0100; 32];
-    for (size, byte_id, paper) in SCALES {
-        for (side, lanes) in [(0, 16), (1, 8)] {
-            let selector = [size, side, byte_id, 0];
-            let figure = || format!("scale {selector:?}");
-            let mut out = vec![1000; lanes * size as usize];
-            accepted(figure, calls.scale(selector, &metadata, &mut out))?;
-            equal(figure, out, paper.repeat(lanes))?;
-        }
+/// On both sides, with this metadata word in every lane, each lane gives these numbers.
+fn scale_lanes(
+    calls: &dyn Calls,
+    word: u32,
+    (size, byte_id, paper): (u32, u32, &[i32]),
+) -> Result<(), Difference> {
+    for (side, lanes) in [(0, 16), (1, 8)] {
+        let selector = [size, side, byte_id, 0];
+        let figure = || format!("scale {selector:?} of {word:x}");
+        let mut out = vec![1000; lanes * size as usize];
+        accepted(figure, calls.scale(selector, &[word; 32], &mut out))?;
+        equal(figure, out, paper.repeat(lanes))?;
     }
-    let mut out = [1000; 32];
-    let answer = calls.scale([2, 0, 1, 0], &metadata, &mut out);
-    let figure = || "scale of size 2 with byte-id 1".to_string();
-    equal(figure, (answer, out), (2 << 32 | 8, [1000; 32]))
+    Ok(())
+}
+
+/// Refused with this answer, and nothing is written.
+fn scale_refused(
+    calls: &dyn Calls,
+    selector: [u32; 4],
+    metadata: &[u32],
+    paper: u64,
+) -> Result<(), Difference> {
+    let lanes = if selector[1] == 0 { 16 } else { 8 };
+    let before = vec![1000; lanes * selector[0] as usize];
+    let mut out = before.clone();
+    let answer = calls.scale(selector, metadata, &mut out);
+    equal(
+        || format!("scale {selector:?}, refused"),
+        (answer, out),
+        (paper, before),
+    )
+}
+
+fn scales(calls: &dyn Calls) -> Result<(), Difference> {
+    for lane in SCALES {
+        scale_lanes(calls, 0x807f_0100, lane)?;
+    }
+    scale_refused(calls, [2, 0, 1, 0], &[0x807f_0100; 32], 2 << 32 | 8)?;
+    for lane in SCALES_BESIDE_A_NAN {
+        scale_lanes(calls, 0xff7f_0100, lane)?;
+    }
+    for side in [0, 1] {
+        scale_refused(calls, [1, side, 3, 0], &[0xff7f_0100; 32], 12)?;
+    }
+    let mut metadata = [0; 32];
+    metadata[1] = 0x00ff_0000;
+    scale_refused(calls, [4, 0, 0, 0], &metadata, 6 << 32 | 12)?;
+    let figure = || "scale of byte-id 0, byte 2 of lane 1 being 255".to_string();
+    let mut out = [1000; 16];
+    accepted(figure, calls.scale([1, 0, 0, 0], &metadata, &mut out))?;
+    equal(figure, out, [-127; 16])
 }
 
 fn templates(calls: &dyn Calls) -> Result<(), Difference> {

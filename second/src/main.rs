@@ -71,7 +71,7 @@ fn arguments() -> Option<(Part, u64, u64)> {
 type Comparison = fn(&mut Bench) -> Result<Tally, Difference>;
 
 /// In such an order that the long ones fall to both parts of two.
-const COMPARISONS: [Comparison; 20] = [
+const COMPARISONS: [Comparison; 21] = [
     |bench| figures::figures(bench.library, bench.rules),
     places::wz_place,
     places::wz_find,
@@ -85,6 +85,7 @@ const COMPARISONS: [Comparison; 20] = [
     runs::wz_feed,
     runs::wz_read,
     scales::wz_scale,
+    scales::nans,
     templates::wz_template_read,
     templates::wz_template_write,
     lengths::long_buffers,

@@ -129,7 +129,7 @@ pub fn read(layouts: &Layouts, run: &[u32; run::WORDS], nd: usize) -> u64 {
     first(&[bad_run(run), length(0, nd, words(layouts, kind, C))])
 }
 
-/// Scale: 8, 5; metadata, output.
+/// Scale: 8, 5; metadata, output. Then 12, by the chosen bytes.
 pub fn scale(selector: [u32; 4], nm: usize, no: usize) -> u64 {
     let [size, side, byte_id, thread_id] = selector;
     let byte_legal = match size {
@@ -150,6 +150,12 @@ pub fn scale(selector: [u32; 4], nm: usize, no: usize) -> u64 {
         length(0, nm, Some(32)),
         length(1, no, Some(output)),
     ])
+}
+
+/// K4: 12, a chosen byte is 255, with its index in the output.
+pub fn scale_bytes(chosen: &[u64]) -> u64 {
+    let nan = chosen.iter().position(|&byte| byte == 255);
+    first(&[(nan.is_some(), 12, nan.unwrap_or(0) as u32)])
 }
 
 /// Template records: 5 only; reading counts record, words.

@@ -10,7 +10,7 @@ use Prim.Native.Nat.{ℕ, suc, _-_, _≤_}
 use native.Mathlib.Omega.{arith}
 use lib.Dec.{T, eqb, eqb→eq}
 use lib.IntN.{ℤ}
-use lib.ListN.{length}
+use lib.ListN.{length, getD}
 use Rattle.answers.specs.Refusals.{Answer, given, refusal, told}
 use Rattle.answers.specs.Tests.{Test, is, either, within, Says, holds, firstOf}
 use Rattle.answers.specs.Calls.{Call, orderOf, Gives, NoneSays}
@@ -31,7 +31,8 @@ use Rattle.template.specs.Templates.{readCall as recordReadCall, writeCall as r
 use Rattle.step.specs.StepCalls.{stepCall, plainCall}
 use Rattle.run.specs.declared.Run.{Run}
 use Rattle.run.specs.RunCalls.{openCall, feedCall, readCall}
-use Rattle.scale.specs.ScaleCall.{scaleCall}
+use Rattle.scale.specs.Bytes.{chosenBytes}
+use Rattle.scale.specs.ScaleCall.{notANumber, scaleCall}
 use Rattle.promises.specs.Calls.{OfBench}
 
 module _ {X : Type 0} {call : Call X} (asked : OfBench X call) where
@@ -72,9 +73,9 @@ module _ {X : Type 0} {call : Call X} (asked : OfBench X call) where
   pub no-second-code : {old : X} {a b : ℕ} {x y : X} → Coded call old a x → Coded call old b y → (a ≡ b) × (x ≡ y)
   no-second-code = every.no-second-code
 
--- 'Order: place 1, 2, 6; unpack 1, 2, 5; pack 1, 2, 5, 7; step and open 1, 3, 4, 5; feed 10, 9, 5; read 10, 5; scale 8, 5.' Each buffer has a line
--- of 5, each selector one of 8, with its number as the detail; 7 has the first index. A template record has only lines of 5, and the plain step
--- no selectors.
+-- 'Order: place 1, 2, 6; unpack 1, 2, 5; pack 1, 2, 5, 7; step and open 1, 3, 4, 5; feed 10, 9, 5; read 10, 5; scale 8, 5.' And document 02, K4: 12
+-- 'after 8 and 5'. Each buffer has a line of 5, each selector one of 8, with its number as the detail; 7 and 12 have the first index. A template record has
+-- only lines of 5, and the plain step no selectors.
 module _ (k r : ℕ) where
   pub place-order : (lane i : ℕ) → orderOf (placeCall k r lane i .refusals) ≡ (1, 0) ∷ (2, 0) ∷ (6, 0) ∷ []
   place-order lane i = refl
@@ -116,7 +117,9 @@ module _ (run : Run) (a b d : List ℕ) where
 
 pub scale-order : (size side byteId threadId : ℕ) (metadata : List ℕ) (output : List ℤ)
     → orderOf (scaleCall size side byteId threadId metadata output .refusals)
-    ≡ (8, 0) ∷ (8, 1) ∷ (8, 2) ∷ (8, 3) ∷ (5, 0) ∷ (5, 1) ∷ []
+    ≡ (8, 0) ∷ (8, 1) ∷ (8, 2) ∷ (8, 3) ∷ (5, 0) ∷ (5, 1)
+    ∷ (12, let chosen = chosenBytes size side byteId threadId metadata in firstOf (length chosen) (λ i. notANumber (getD chosen i 0)))
+    ∷ []
 scale-order size side byteId threadId metadata output = refl
 
 -- 'Kinds 1 to 5 are the arithmetic kinds', kind 1 being one-bit and 2 to 5 integer; and document 02, K5, of 11 to 14: 'All four are arithmetic kinds; 13

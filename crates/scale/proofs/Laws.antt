@@ -8,10 +8,10 @@ use native.Mathlib.Nat.{add-comm, mul-one, zero-mul, suc-mul, div-add-mod', div-
 use native.Mathlib.Decide.{ℕ-discrete}
 use native.Mathlib.Omega.{arith}
 use lib.Dec.{ltb, ltb→lt, eqb→eq}
-use lib.IntN.{ℤ}
-use lib.ListN.{length, getD, length-append, length-map, List·getD-append, List·getD-map}
+use lib.IntN.{pos, subℕ}
+use lib.ListN.{length, getD, length-append, length-map, List·getD-append}
 use lib.Seq.{getD-append-add}
-use lib.Signed.{mag}
+use lib.Signed.{_≤ℤ_, mag, leZ, leZ-yes}
 use mir.Syntax.{w32}
 use mir.Val.{SFits}
 use Rattle.laws.specs.Choice.{if_then_else_, _=?_}
@@ -92,29 +92,38 @@ module _ (s b : ℕ) (m n : List ℕ) (test : ℕ → Bool) where
 pub by-one : (s side : ℕ) → outputLength s side ≡ outputLength 1 side * s
 by-one s side = ap (λ (n : ℕ). n * s) (sym (mul-one (if side =? 0 then 16 else 8)))
 
--- number j of chosen lane number k
-abbrev pub number : (side b t : ℕ) → List ℕ → (k j : ℕ) → ℤ
-number side b t m k j = exponent (byteOf (getD m (getD (chosenLanes side t) k 0) 0) (b + j))
+-- byte j of chosen lane number k
+abbrev pub chosenByte : (side b t : ℕ) → List ℕ → (k j : ℕ) → ℕ
+chosenByte side b t m k j = byteOf (getD m (getD (chosenLanes side t) k 0) 0) (b + j)
 
--- the output, by number
+-- the chosen bytes and the output, by number
 module _ (s side b t : ℕ) (m : List ℕ) (ok : Says (legalThreadId side t)) where
   numbers : outputLength s side ≡ length (chosenLanes side t) * s
   numbers = by-one s side ∙ ap (λ (n : ℕ). n * s) (sym (lanes-length side t ok))
 
-  pub scaled-length : length (scaled s side b t m) ≡ outputLength s side
-  unfolding scaled chosenBytes
-  scaled-length =
-      length-map (bytesFrom s b m (chosenLanes side t)) exponent
-      ∙ bytes-length s b m (chosenLanes side t)
-      ∙ sym numbers
+  pub chosen-length : length (chosenBytes s side b t m) ≡ outputLength s side
+  unfolding chosenBytes
+  chosen-length = bytes-length s b m (chosenLanes side t) ∙ sym numbers
 
-  pub scaled-tab : 0 < s → scaled s side b t m ≡ tab (outputLength s side) (blocks s (number side b t m))
-  unfolding scaled chosenBytes
-  scaled-tab s0 =
-      is-tab (outputLength s side) (blocks s (number side b t m)) (scaled s side b t m) (exponent 0) scaled-length
-      (λ x h. List·getD-map exponent (chosenBytes s side b t m) x 0
-      ∙ ap exponent (bytes-at s b m (chosenLanes side t) x s0 (subst (λ (n : ℕ). x < n) numbers h)))
+  pub scaled-length : length (scaled s side b t m) ≡ outputLength s side
+  unfolding scaled
+  scaled-length = length-map (chosenBytes s side b t m) exponent ∙ chosen-length
+
+  pub chosen-tab : 0 < s → chosenBytes s side b t m ≡ tab (outputLength s side) (blocks s (chosenByte side b t m))
+  unfolding chosenBytes
+  chosen-tab s0 =
+      is-tab (outputLength s side) (blocks s (chosenByte side b t m)) (chosenBytes s side b t m) 0 chosen-length
+      (λ x h. bytes-at s b m (chosenLanes side t) x s0 (subst (λ (n : ℕ). x < n) numbers h))
+
+  pub chosen-small : 0 < s → (x : ℕ) → x < outputLength s side → getD (chosenBytes s side b t m) x 0 < 256
+  chosen-small s0 x h =
+      let byte = blocks s (chosenByte side b t m) in
+      subst (λ (y : ℕ). y < 256) (sym (ap (λ (bytes : List ℕ). getD bytes x 0) (chosen-tab s0) ∙ getD-tab (outputLength s side) byte x 0 h)) (mod-lt _ (suc-le-suc zero-le))
 
 -- the exponent of a byte is an i32
 pub exponent-fits : (b : ℕ) → b < 256 → SFits w32 (exponent b)
 exponent-fits b h = record { sfits = ltb→lt (mag (exponent b)) (2 ^ 31) (all-at 256 (λ b. ltb (mag (exponent b)) (2 ^ 31)) tt b h) }
+
+-- and that of a byte that is a number lies in -127 to 127
+pub exponent-range : (b : ℕ) → b < 255 → (subℕ 0 127 ≤ℤ exponent b) × (exponent b ≤ℤ pos 127)
+exponent-range b h = (leZ-yes (all-at 255 (λ b. leZ (subℕ 0 127) (exponent b)) tt b h), leZ-yes (all-at 255 (λ b. leZ (exponent b) (pos 127)) tt b h))

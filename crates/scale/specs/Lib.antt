@@ -1,3 +1,3 @@
 pub mod Bytes
 pub mod ScaleCall
-pub mod Legal
+pub mod Workers

@@ -3,12 +3,13 @@ ghost use mathlib.Core.Path.{_≡_};
 ghost use Prim.Native.Nat.{_+_, _<_, _≤_};
 ghost use lib.ListN.{length, getD};
 ghost use Rattle.kinds.specs.Kinds.{lanes};
-ghost use Rattle.answers.specs.Tests.{Says};
+ghost use mathlib.Core.List.{map};
+ghost use Rattle.answers.specs.Tests.{Says, firstOf};
 ghost use Rattle.answers.specs.Contracts.{Tells, Judges, Meets};
 ghost use Rattle.laws.specs.Lists.{fills};
-ghost use Rattle.scale.specs.Bytes.{legalSize, legalSide, legalByteId, legalThreadId, chosenLanes, byteOf, exponent, scaled, outputLength};
-ghost use Rattle.scale.specs.ScaleCall.{scaleRefusals, scaleCall};
-ghost use Rattle.scale.specs.Legal.{Legal};
+ghost use Rattle.scale.specs.Bytes.{legalSize, legalSide, legalByteId, legalThreadId, chosenLanes, byteOf, chosenBytes, exponent, outputLength};
+ghost use Rattle.scale.specs.ScaleCall.{legalRefusals, notANumber, scaleCall};
+ghost use Rattle.scale.specs.Workers.{Legal, bytesCall};
 use answers::Refusal;
 use answers::Verdict;
 use kinds::Lane;
@@ -133,7 +134,7 @@ fn judge(
     words: usize,
     numbers: usize,
 ) -> Verdict
-    ensures { λ r. ⌜ Judges (scaleRefusals (size .0) (side .0) («byte_id» .0) («thread_id» .0) words numbers) r ⌝ }
+    ensures { λ r. ⌜ Judges (legalRefusals (size .0) (side .0) («byte_id» .0) («thread_id» .0) words numbers) r ⌝ }
 {
     if !size.legal() {
         return Verdict::Refused(Refusal::BadScale(0));
@@ -178,6 +179,77 @@ fn byte_of(word: u32, b: u32) -> u8
     ((word >> (8 * b)) % 256) as u8
 }
 
+// The bytes of one chosen lane, the low byte first.
+fn put_lane(word: u32, size: Size, byte_id: ByteId, chosen: &mut [u8], at: usize)
+    requires { ⌜ («byte_id» .0 + size .0 ≤ 4) × (at ≤ 64) × (at + size .0 ≤ length (now chosen)) ⌝ }
+    ensures { λ _. ⌜ now (chosen .exit) ≡ fills at (size .0) (λ j. byteOf word («byte_id» .0 + j))
+        (now (chosen .entry)) ⌝ }
+{
+    for j in 0..size.0 {
+        let k = at + j as usize;
+        chosen[k] = byte_of(word, byte_id.0 + j);
+    }
+}
+
+// The chosen bytes, lane by lane.
+fn put_lanes(
+    size: Size,
+    side: Side,
+    byte_id: ByteId,
+    thread_id: ThreadId,
+    metadata: &[u32],
+    chosen: &mut [u8],
+)
+    requires { ⌜ Legal (size .0) (side .0) («byte_id» .0) («thread_id» .0) (length (now metadata)) ⌝ }
+    requires { ⌜ length (now chosen) ≡ outputLength (size .0) (side .0) ⌝ }
+    ensures { λ _. ⌜ now (chosen .exit) ≡ chosenBytes (size .0) (side .0) («byte_id» .0) («thread_id» .0)
+        (now (metadata .entry)) ⌝ }
+{
+    for k in 0..output_length(Size(1), side) {
+        let lane = lane_at(side, thread_id, k as u32).0 as usize;
+        let at = k * size.0 as usize;
+        put_lane(metadata[lane], size, byte_id, chosen, at);
+    }
+}
+
+// The chosen bytes. Each size is written out, so that the compiler lays a lane's bytes out without a loop.
+fn choose(
+    size: Size,
+    side: Side,
+    byte_id: ByteId,
+    thread_id: ThreadId,
+    metadata: &[u32],
+    chosen: &mut [u8],
+)
+    requires { ⌜ Legal (size .0) (side .0) («byte_id» .0) («thread_id» .0) (length (now metadata)) ⌝ }
+    requires { ⌜ length (now chosen) ≡ outputLength (size .0) (side .0) ⌝ }
+    ensures { λ _. ⌜ now (chosen .exit) ≡ chosenBytes (size .0) (side .0) («byte_id» .0) («thread_id» .0)
+        (now (metadata .entry)) ⌝ }
+{
+    let s = size.0;
+    if s == 4 {
+        put_lanes(Size(4), side, ByteId(0), thread_id, metadata, chosen);
+    } else if s == 2 {
+        put_lanes(Size(2), side, byte_id, thread_id, metadata, chosen);
+    } else {
+        put_lanes(Size(1), side, byte_id, thread_id, metadata, chosen);
+    }
+}
+
+// The index of the first byte that is not a number, or the length.
+fn first_nan(chosen: &[u8]) -> usize
+    ensures { λ r. ⌜ r ≡ firstOf (length (now (chosen .entry))) (λ i. notANumber (getD (now (chosen .entry)) i 0)) ⌝ }
+{
+    let mut i = 0;
+    while i < chosen.len() {
+        if chosen[i] == 255 {
+            return i;
+        }
+        i += 1;
+    }
+    i
+}
+
 // A byte as a signed exponent.
 fn exponent_of(b: u8) -> i32
     ensures { λ r. ⌜ r ≡ exponent b ⌝ }
@@ -185,37 +257,48 @@ fn exponent_of(b: u8) -> i32
     b as i32 - 127
 }
 
-// The bytes of one chosen lane, the low byte first.
-fn put_lane(word: u32, size: Size, byte_id: ByteId, out: &mut [i32], at: usize)
-    requires { ⌜ («byte_id» .0 + size .0 ≤ 4) × (at ≤ 64) × (at + size .0 ≤ length (now out)) ⌝ }
-    ensures { λ _. ⌜ now (out .exit) ≡ fills at (size .0) (λ j. exponent (byteOf word («byte_id» .0 + j)))
-        (now (out .entry)) ⌝ }
+// The exponents of bytes.
+fn put_exponents(chosen: &[u8], out: &mut [i32])
+    requires { ⌜ length (now out) ≡ length (now chosen) ⌝ }
+    ensures { λ _. ⌜ now (out .exit) ≡ map exponent (now (chosen .entry)) ⌝ }
 {
-    for j in 0..size.0 {
-        let k = at + j as usize;
-        out[k] = exponent_of(byte_of(word, byte_id.0 + j));
+    for i in 0..chosen.len() {
+        out[i] = exponent_of(chosen[i]);
     }
 }
 
-// The whole output, lane by lane.
-fn fill(
+// The exponents of bytes, none of which may be 255: nothing is written before all are looked at.
+fn scale_bytes(chosen: &[u8], out: &mut [i32]) -> Verdict
+    requires { ⌜ (length (now out) ≡ length (now chosen)) × (length (now chosen) ≤ 64) ⌝ }
+    ensures { λ r. ⌜ Meets (bytesCall (now (chosen .entry))) (now (out .entry)) r (now (out .exit)) ⌝ }
+{
+    let nan = first_nan(chosen);
+    if nan < chosen.len() {
+        return Verdict::Refused(Refusal::ScaleNan(nan as u32));
+    }
+    put_exponents(chosen, out);
+    Verdict::Accepted
+}
+
+// The call with legal selectors and lengths, which 255 may still refuse.
+fn scale_legal(
     size: Size,
     side: Side,
     byte_id: ByteId,
     thread_id: ThreadId,
     metadata: &[u32],
     out: &mut [i32],
-)
+) -> Verdict
     requires { ⌜ Legal (size .0) (side .0) («byte_id» .0) («thread_id» .0) (length (now metadata)) ⌝ }
     requires { ⌜ length (now out) ≡ outputLength (size .0) (side .0) ⌝ }
-    ensures { λ _. ⌜ now (out .exit) ≡ scaled (size .0) (side .0) («byte_id» .0) («thread_id» .0)
-        (now (metadata .entry)) ⌝ }
+    ensures { λ r. ⌜ Meets (bytesCall (chosenBytes (size .0) (side .0) («byte_id» .0) («thread_id» .0)
+        (now (metadata .entry)))) (now (out .entry)) r (now (out .exit)) ⌝ }
 {
-    for k in 0..output_length(Size(1), side) {
-        let lane = lane_at(side, thread_id, k as u32).0 as usize;
-        let at = k * size.0 as usize;
-        put_lane(metadata[lane], size, byte_id, out, at);
-    }
+    let n = out.len();
+    let mut room: [u8; 64] = [0; 64];
+    let chosen = &mut room[0..n];
+    choose(size, side, byte_id, thread_id, metadata, chosen);
+    scale_bytes(chosen, out)
 }
 
 // The exponents of the chosen bytes, lanes ascending, low byte first.
@@ -232,10 +315,7 @@ pub fn scale(
 {
     let verdict = judge(size, side, byte_id, thread_id, metadata.len(), out.len());
     match verdict {
-        Verdict::Accepted => {
-            fill(size, side, byte_id, thread_id, metadata, out);
-            verdict
-        }
+        Verdict::Accepted => scale_legal(size, side, byte_id, thread_id, metadata, out),
         Verdict::Refused(_) => verdict,
     }
 }

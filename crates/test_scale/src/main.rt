@@ -1,4 +1,4 @@
-// Shows what `scale` answers: the figures of document 01, whole outputs of each side and size, and each refusal.
+// Shows what `scale` answers: the figures of document 01 and of byte 255, whole outputs of each side and size, and each refusal.
 use answers::Verdict;
 use scale::ByteId;
 use scale::Side;
@@ -11,6 +11,9 @@ use test_print::print_text;
 
 // The figures' metadata word, in every lane.
 const WORD: [u32; 32] = [0x807F0100; 32];
+
+// A word whose high byte is 255, in every lane.
+const HIGH_NAN: [u32; 32] = [0xFF7F0100; 32];
 
 // Lane i holds i times 08040201 (hexadecimal): its bytes are i, 2i, 4i and 8i.
 const VARIED: [u32; 32] = [
@@ -135,6 +138,37 @@ fn figures() {
     on_word(2, Side::B, 1, 0, 16);
 }
 
+fn on_high_nan(size: u32, side: u32, byte_id: u32, thread_id: u32, n: usize) {
+    show(Selectors(size, side, byte_id, thread_id), &HIGH_NAN, n);
+}
+
+fn figures_of_255() {
+    on_high_nan(1, Side::B, 3, 0, 8);
+    on_high_nan(1, Side::B, 0, 0, 8);
+    on_high_nan(1, Side::B, 1, 0, 8);
+    on_high_nan(1, Side::B, 2, 0, 8);
+    on_high_nan(2, Side::A, 2, 1, 32);
+}
+
+// 255 in byte 2 of lane 1 only, and 254 in every other.
+fn on_one_nan(size: u32, side: u32, byte_id: u32, thread_id: u32, n: usize) {
+    let mut metadata: [u32; 32] = [0xFEFEFEFE; 32];
+    metadata[1] = 0xFEFFFEFE;
+    show(Selectors(size, side, byte_id, thread_id), &metadata, n);
+}
+
+// The lane and the byte are chosen, then the byte is not, then the lane is not.
+fn one_nan() {
+    on_one_nan(4, Side::A, 0, 0, 64);
+    on_one_nan(2, Side::A, 2, 0, 32);
+    on_one_nan(1, Side::A, 2, 0, 16);
+    on_one_nan(4, Side::B, 0, 1, 32);
+    on_one_nan(1, Side::A, 0, 0, 16);
+    on_one_nan(2, Side::B, 0, 1, 16);
+    on_one_nan(1, Side::A, 2, 1, 16);
+    on_one_nan(4, Side::B, 0, 0, 32);
+}
+
 fn side_a() {
     on_varied(1, Side::A, 0, 0, 16);
     on_varied(1, Side::A, 3, 1, 16);
@@ -178,11 +212,17 @@ fn several() {
     on_none(1, Side::A, 3, 4, 5);
     on_none(1, Side::A, 3, 1, 5);
     on_word(1, Side::A, 3, 1, 5);
+    show(Selectors(1, Side::A, 3, 1), &HIGH_NAN[..31], 5);
+    on_high_nan(1, Side::A, 3, 1, 5);
 }
 
 fn main() {
     print_text(b"metadata 807F0100 in every lane\n");
     figures();
+    print_text(b"metadata FF7F0100 in every lane\n");
+    figures_of_255();
+    print_text(b"metadata FEFFFEFE in lane 1, FEFEFEFE in the others\n");
+    one_nan();
     print_text(b"metadata i times 08040201 in lane i\n");
     side_a();
     side_b();
