@@ -11,7 +11,7 @@ use Rattle.answers.specs.declared.Refusal.the-variants.{UnknownKind, Unk
 use Rattle.answers.specs.declared.Verdict.{Verdict}
 use Rattle.answers.specs.declared.Verdict.the-variants.{Accepted, Refused}
 
--- no two of the enum have the same
+-- no two of the enum have the same; none has 0 or 11
 pub refusalOf : ℕ → ℕ → Refusal
 refusalOf n d =
     getD (UnknownKind ∷ UnknownKind ∷ UnknownRole ∷ NotArithmetic ∷ BadSelectors ∷ WrongLength d ∷ Outside ∷ TooWide d ∷ BadScale d ∷ RunFull ∷ BadRun ∷ UnknownKind ∷ ScaleNan d ∷ []) n UnknownKind

@@ -1,9 +1,9 @@
-// Scale bytes: the choice of bytes by the selectors, and their reading as exponents.
+// Scale bytes: the choice of bytes by the selectors, the look for 255, and their reading as exponents.
 ghost use mathlib.Core.Path.{_≡_};
+ghost use mathlib.Core.List.{map};
 ghost use Prim.Native.Nat.{_+_, _<_, _≤_};
 ghost use lib.ListN.{length, getD};
 ghost use Rattle.kinds.specs.Kinds.{lanes};
-ghost use mathlib.Core.List.{map};
 ghost use Rattle.answers.specs.Tests.{Says, firstOf};
 ghost use Rattle.answers.specs.Contracts.{Tells, Judges, Meets};
 ghost use Rattle.laws.specs.Lists.{fills};
@@ -13,6 +13,12 @@ ghost use Rattle.scale.specs.Workers.{Legal, bytesCall};
 use answers::Refusal;
 use answers::Verdict;
 use kinds::Lane;
+
+// The byte that is not a number.
+const NAN: u8 = 255;
+
+// Numbers of the longest output: of sixteen lanes, four bytes each.
+const LONGEST: usize = 64;
 
 // Each selector has its own type, so that none stands in for another. Any u32 may stand in it: what is illegal is refused.
 pub struct Size(pub u32);
@@ -179,8 +185,8 @@ fn byte_of(word: u32, b: u32) -> u8
     ((word >> (8 * b)) % 256) as u8
 }
 
-// The bytes of one chosen lane, the low byte first.
-fn put_lane(word: u32, size: Size, byte_id: ByteId, chosen: &mut [u8], at: usize)
+// The bytes of a word from byte-id on, the low byte first.
+fn put_bytes(word: u32, size: Size, byte_id: ByteId, chosen: &mut [u8], at: usize)
     requires { ⌜ («byte_id» .0 + size .0 ≤ 4) × (at ≤ 64) × (at + size .0 ≤ length (now chosen)) ⌝ }
     ensures { λ _. ⌜ now (chosen .exit) ≡ fills at (size .0) (λ j. byteOf word («byte_id» .0 + j))
         (now (chosen .entry)) ⌝ }
@@ -191,8 +197,25 @@ fn put_lane(word: u32, size: Size, byte_id: ByteId, chosen: &mut [u8], at: usize
     }
 }
 
+// The bytes of one chosen lane. Each size is written out: the compiler then needs no loop over them.
+fn put_lane(word: u32, size: Size, byte_id: ByteId, chosen: &mut [u8], at: usize)
+    requires { ⌜ Says (legalByteId (size .0) («byte_id» .0)) ⌝ }
+    requires { ⌜ (at ≤ 64) × (at + size .0 ≤ length (now chosen)) ⌝ }
+    ensures { λ _. ⌜ now (chosen .exit) ≡ fills at (size .0) (λ j. byteOf word («byte_id» .0 + j))
+        (now (chosen .entry)) ⌝ }
+{
+    let s = size.0;
+    if s == 4 {
+        put_bytes(word, Size(4), ByteId(0), chosen, at);
+    } else if s == 2 {
+        put_bytes(word, Size(2), byte_id, chosen, at);
+    } else {
+        put_bytes(word, Size(1), byte_id, chosen, at);
+    }
+}
+
 // The chosen bytes, lane by lane.
-fn put_lanes(
+fn choose(
     size: Size,
     side: Side,
     byte_id: ByteId,
@@ -212,37 +235,13 @@ fn put_lanes(
     }
 }
 
-// The chosen bytes. Each size is written out, so that the compiler lays a lane's bytes out without a loop.
-fn choose(
-    size: Size,
-    side: Side,
-    byte_id: ByteId,
-    thread_id: ThreadId,
-    metadata: &[u32],
-    chosen: &mut [u8],
-)
-    requires { ⌜ Legal (size .0) (side .0) («byte_id» .0) («thread_id» .0) (length (now metadata)) ⌝ }
-    requires { ⌜ length (now chosen) ≡ outputLength (size .0) (side .0) ⌝ }
-    ensures { λ _. ⌜ now (chosen .exit) ≡ chosenBytes (size .0) (side .0) («byte_id» .0) («thread_id» .0)
-        (now (metadata .entry)) ⌝ }
-{
-    let s = size.0;
-    if s == 4 {
-        put_lanes(Size(4), side, ByteId(0), thread_id, metadata, chosen);
-    } else if s == 2 {
-        put_lanes(Size(2), side, byte_id, thread_id, metadata, chosen);
-    } else {
-        put_lanes(Size(1), side, byte_id, thread_id, metadata, chosen);
-    }
-}
-
 // The index of the first byte that is not a number, or the length.
 fn first_nan(chosen: &[u8]) -> usize
     ensures { λ r. ⌜ r ≡ firstOf (length (now (chosen .entry))) (λ i. notANumber (getD (now (chosen .entry)) i 0)) ⌝ }
 {
     let mut i = 0;
     while i < chosen.len() {
-        if chosen[i] == 255 {
+        if chosen[i] == NAN {
             return i;
         }
         i += 1;
@@ -295,7 +294,7 @@ fn scale_legal(
         (now (metadata .entry)))) (now (out .entry)) r (now (out .exit)) ⌝ }
 {
     let n = out.len();
-    let mut room: [u8; 64] = [0; 64];
+    let mut room: [u8; LONGEST] = [0; LONGEST];
     let chosen = &mut room[0..n];
     choose(size, side, byte_id, thread_id, metadata, chosen);
     scale_bytes(chosen, out)

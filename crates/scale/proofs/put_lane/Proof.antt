@@ -1,64 +1,49 @@
--- After j turns the first j bytes of the lane stand from `at` on, and the rest as it was. Assumes nothing.
-use mathlib.Core.Path.{_≡_, refl, ap, ap₂, _∙_}
-use mathlib.Core.List.{List}
-use Prim.Native.Nat.{ℕ, _+_, _-_, _≤_}
-use native.Mathlib.Omega.{arith}
+-- The size that was tested is the one written out, with its byte-id. Assumes nothing.
 use borrow.Author.Needs.{needs}
-use denote.Ref.{now}
-use lib.ListN.{length, set}
-use Rattle.laws.specs.Lists.{fills}
-use Rattle.laws.proofs.Lists.{length-fills, fills-more}
-use Rattle.scale.specs.Bytes.{byteOf}
+use mathlib.Core.Path.{_≡_}
+use native.Mathlib.Omega.{arith}
+use Rattle.scale.proofs.Legal.{bytes-fit, at-low, is-one}
 use Rattle.scale.proofs.put_lane.Statement.{statement}
 use Rattle.scale.proofs.put_lane.Tie as tie
 
--- byte j of the lane
-abbrev byteAt : (word byte-id j : ℕ) → ℕ
-byteAt word byte-id j = byteOf word (byte-id + j)
+four : (c : tie.Then1) → let x = c .before .before .args in (x .size .0 ≡ 4) × (x .byte-id .0 ≡ 0)
+four c = (c .if1 .taken, at-low _ _ (c .before .before .pre .0) (c .if1 .taken))
 
-abbrev Inv-loop : tie.InvT-loop
-Inv-loop word byte-id chosen₀ at j₀ j-end chosen j = (j ≤ j-end) × (chosen ≡ fills at j (byteAt word (byte-id .0)) chosen₀) × (length chosen ≡ length chosen₀)
+one : (c : tie.Else2) → c .before .before .before .args .size .0 ≡ 1
+one c = is-one _ _ (c .before .before .before .pre .0) (c .before .if1 .left) (c .if2 .left)
 
-abbrev μ-loop : tie.MeasureT-loop
-μ-loop word byte-id chosen₀ at j₀ j-end chosen j = j-end - j
+put-bytes-requires : tie.Need-put-bytes-requires
+put-bytes-requires c κs = let s = c .before .before .before in (omega arith, s .pre .1 .0, omega (arith, four (c .before), s .pre .1))
 
-loop-holds : tie.Need-loop-holds Inv-loop μ-loop
-unfolding fills
-loop-holds c = (search needs, refl, refl)
+put-bytes-requires-2 : tie.Need-put-bytes-requires-2
+put-bytes-requires-2 c κs =
+    let s = c .before .before .before .before in
+    (omega (arith, c .before .if2 .taken, bytes-fit _ _ (s .pre .0)), s .pre .1 .0, omega (arith, c .before .if2 .taken, s .pre .1))
 
-loop-again : tie.Need-loop-again Inv-loop μ-loop
-loop-again c =
-    let l = c .before .before .before in
-    let x = l .before .before .args in
-    let j = l .loop .j in
-    let f = byteAt (x .word) (x .byte-id .0) in
-    let chosen = now (x .chosen) in
-    let e : set (l .loop .chosen) (x .at + j) _ ≡ fills (x .at) (j + 1) f chosen =
-    ap₂ (λ (ys : List ℕ) (z : ℕ). set ys (x .at + j) z) (l .loop .inv .1) (c .byte-of .ensures)
-    ∙ fills-more (x .at) j f chosen in
-    (omega arith, e, ap length e ∙ length-fills (x .at) (j + 1) f chosen)
+put-bytes-requires-3 : tie.Need-put-bytes-requires-3
+put-bytes-requires-3 c κs =
+    let s = c .before .before .before .before in
+    (omega (arith, one (c .before), bytes-fit _ _ (s .pre .0)), s .pre .1 .0, omega (arith, one (c .before), s .pre .1))
 
-returns : tie.Need-returns Inv-loop μ-loop
-returns c =
-    let x = c .before .before .before .args in
-    let l = c .before .loop in
-    let e : l .j ≡ x .size .0 = omega arith in
-    l .inv .1 ∙ ap (λ (n : ℕ). fills (x .at) n (byteAt (x .word) (x .byte-id .0)) (now (x .chosen))) e
+returns : tie.Need-returns
+returns c = let t = c .before .before .before .before in rw (four t .0, four t .1) (c .before .before .put-bytes .ensures)
+
+returns-2 : tie.Need-returns-2
+returns-2 c = rw (c .before .before .before .before .if2 .taken) (c .before .before .put-bytes2 .ensures)
+
+returns-3 : tie.Need-returns-3
+returns-3 c = rw (one (c .before .before .before .before)) (c .before .before .put-bytes3 .ensures)
 
 pub put-lane-spec : {M : Type 1} → statement M
 put-lane-spec =
     tie.close
     (tie.spec
-    Inv-loop
-    μ-loop
-    loop-holds
+    put-bytes-requires
+    put-bytes-requires-2
+    put-bytes-requires-3
     (λ c. search needs)
+    returns
     (λ c. search needs)
+    returns-2
     (λ c. search needs)
-    (λ c κs. search needs)
-    (λ c. search needs)
-    (λ c. search needs)
-    (λ c. search needs)
-    loop-again
-    (λ c. search needs)
-    returns)
+    returns-3)
