@@ -10,14 +10,14 @@ use Rattle.laws.proofs.Every.{left, right}
 use Rattle.answers.specs.Tests.{holds}
 use Rattle.answers.specs.Refusals.{Answer, given, refusal, told, after}
 use Rattle.answers.specs.Calls.{Line, _then_, first, Call, answer, judgement, leftBy, Gives, NoneSays}
-use Rattle.answers.specs.Right.{Right, Passes}
+use Rattle.answers.specs.Right.{Passes}
 use Rattle.answers.specs.Contracts.{Meets, Replies, Coded}
 use Rattle.answers.specs.declared.Refusal.{Refusal}
 use Rattle.answers.specs.declared.Verdict.{Verdict}
 use Rattle.answers.specs.declared.Verdict.the-variants.{Accepted, Refused}
 use Rattle.answers.proofs.Refusals.{one-verdict}
 use Rattle.answers.proofs.Words.{says, says-not}
-use Rattle.answers.proofs.Shows.{never, to-first, told-is, denied, deny, passed, passing}
+use Rattle.answers.proofs.Shows.{never, to-first, told-is, denied, deny, admitted, passing}
 
 -- one line before the rest
 module _ {X : Type 0} {P G : Type 0} (m c n d : ℕ) (rest : Answer X) where
@@ -102,7 +102,7 @@ module _ {X : Type 0} {call : Call X} {old : X} {verdict : Verdict} {left : X} (
   -- In other words: exactly when every line is passed.
   pub accepted-passing : (verdict ≡ Accepted) ↔ Passes (call .refusals)
   accepted-passing = (
-    λ e. passed (call .refusals) (subst (λ (v : Verdict). Right (call .refusals) (told v)) e (m .verdict-right)),
+    admitted (record { verdict-right = m .verdict-right }),
     λ p. one-verdict verdict Accepted (given tt) (verdict-is ∙ passing (call .refusals) tt p) refl,
   )
 

@@ -19,7 +19,7 @@ legalRefusals size side byteId threadId metadata output =
     ∷ 5 at 1 when differs output (outputLength size side)
     ∷ []
 
--- 255 is not a number
+-- K4: 255 is not a number
 abbrev pub notANumber : (byte : ℕ) → Test
 notANumber byte = is byte 255
 
