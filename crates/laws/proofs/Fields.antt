@@ -1,13 +1,17 @@
 -- Laws of fields: a joined number has the fields that it was joined of, a number is joined of its fields, and a field of a wide field is a
 -- field of the whole. Assumes nothing.
 use mathlib.Core.Path.{_≡_, refl, sym, ap, ap₂, _∙_, subst}
+use mathlib.Core.Bool.{Bool, true, false}
 use mathlib.Core.Logic.{⊎-elim}
 use Prim.Native.Nat.{ℕ, zero, suc, _+_, _-_, _*_, _/_, _%_, _^_, _≤_, _<_}
-use native.Mathlib.Nat.{not-suc-le-zero, le-of-suc-le-suc, eq-or-lt-of-le, mul-suc, mul-le-mul-left, mod-eq-of-lt, mod-lt, mul-assoc, mul-comm, mul-add, add-comm, le-refl, mul-zero, mul-one, mod-one}
+use native.Mathlib.Nat.{not-suc-le-zero, le-of-suc-le-suc, eq-or-lt-of-le, mul-suc, mul-le-mul-left, mul-le-mul-right, div-eq-of-lt, zero-div, mod-eq-of-lt, mod-lt, mul-assoc, mul-comm, mul-add, add-comm, le-refl, mul-zero, mul-one, one-mul, mod-one, pow-suc}
 use native.Mathlib.Omega.{arith}
 use native.Mathlib.Numerals.{add-one}
+use borrow.Author.Tests.{ltb-true, ltb-false}
+use lib.Dec.{ltb}
 use lib.Arith.{digits-lt}
-use lib.Pow.{pow-pos, pow-add, shr-shr, high, low, mod-pow-add, mod-mod-pow}
+use lib.Bits.{bitOr, or-shr, or-mod}
+use lib.Pow.{pow-pos, pow-add, pow-lt, shl-shr, shr-shr, high, low, mod-pow-add, mod-mod-pow}
 use lib.Pow
 use Rattle.laws.specs.Fields.{field, joined}
 
@@ -91,3 +95,64 @@ joined-is b f low high e g = ap₂ (λ (h l : ℕ). h * 2 ^ b + l) g e ∙ sym (
 pub joined-more : (b n : ℕ) (f : ℕ → ℕ) → joined b (n + 1) f ≡ f n * 2 ^ (b * n) + joined b n f
 unfolding joined
 joined-more b n f = rw add-one
+
+-- a field of one bit
+pub bit-is : (i w : ℕ) → field 1 i w ≡ w / 2 ^ i % 2
+unfolding field
+bit-is i w = ap (λ (e : ℕ). w / 2 ^ e % 2) (one-mul i)
+
+-- a bit, shifted up: it stands where it was shifted to, and nowhere else
+pub bit-there : (i b : ℕ) → b ≤ 1 → field 1 i (b * 2 ^ i) ≡ b
+bit-there i b h = bit-is i (b * 2 ^ i) ∙ ap (λ (n : ℕ). n % 2) (shl-shr b i) ∙ mod-eq-of-lt (omega arith)
+
+pub bit-elsewhere : (i j b : ℕ) → b ≤ 1 → (j ≡ i → ⊥) → field 1 j (b * 2 ^ i) ≡ 0
+bit-elsewhere i j b h ne = bit-is j (b * 2 ^ i) ∙ either (ltb i j) refl
+  where
+    low : i < j → b * 2 ^ i / 2 ^ j % 2 ≡ 0
+    low l =
+        let few : b * 2 ^ i ≤ 1 * 2 ^ i = mul-le-mul-right (2 ^ i) h in
+        let less : b * 2 ^ i < 2 ^ j = omega (arith, few, pow-lt l) in
+        ap (λ (n : ℕ). n % 2) (div-eq-of-lt less)
+
+    high : j ≤ i → b * 2 ^ i / 2 ^ j % 2 ≡ 0
+    high l =
+        let d = i - suc j in
+        let e : i ≡ suc d + j = omega arith in
+        ap (λ (n : ℕ). b * 2 ^ n / 2 ^ j % 2) e
+        ∙ ap (λ (n : ℕ). b * n / 2 ^ j % 2) (pow-add 2 (suc d) j)
+        ∙ ap (λ (n : ℕ). n / 2 ^ j % 2) (sym (mul-assoc b (2 ^ suc d) (2 ^ j)))
+        ∙ ap (λ (n : ℕ). n % 2) (shl-shr (b * 2 ^ suc d) j)
+        ∙ ap (λ (n : ℕ). b * n % 2) (pow-suc 2 d)
+        ∙ ap (λ (n : ℕ). n % 2) (sym (mul-assoc b (2 ^ d) 2))
+        ∙ omega arith
+
+    either : (t : Bool) → ltb i j ≡ t → b * 2 ^ i / 2 ^ j % 2 ≡ 0
+    either true e = low (ltb-true i j e)
+    either false e = high (ltb-false i j e)
+
+-- 0 has no bit, and every other number has one
+pub no-bit : (i : ℕ) → field 1 i 0 ≡ 0
+no-bit i = bit-is i 0 ∙ ap (λ (n : ℕ). n % 2) (zero-div (2 ^ i))
+
+pub some-bit : (n x : ℕ) → x < 2 ^ n → (x ≡ 0 → ⊥) → (i : ℕ) × (i < n) × (field 1 i x ≡ 1)
+some-bit zero x l ne = absurd (ne (omega arith))
+some-bit (suc n) x l ne = either (x % 2) refl (some-bit n (x / 2))
+  where
+    half : x / 2 < 2 ^ n
+    half = omega (arith, pow-suc 2 n)
+
+    next : (i : ℕ) → field 1 (suc i) x ≡ field 1 i (x / 2)
+    next i =
+        let e : suc i ≡ 1 + i = omega arith in
+        bit-is (suc i) x ∙ ap (λ (n : ℕ). x / 2 ^ n % 2) e ∙ ap (λ (n : ℕ). n % 2) (sym (shr-shr x 1 i)) ∙ sym (bit-is i (x / 2))
+
+    either : (b : ℕ) → x % 2 ≡ b → (x / 2 < 2 ^ n → (x / 2 ≡ 0 → ⊥) → (i : ℕ) × (i < n) × (field 1 i (x / 2) ≡ 1)) → (i : ℕ) × (i < suc n) × (field 1 i x ≡ 1)
+    either zero e so =
+        let r = so half (λ z. ne (omega arith)) in
+        (suc (r .0), omega (arith, r .1), next (r .0) ∙ r .2)
+    either (suc b) e so = (0, omega arith, bit-is 0 x ∙ omega arith)
+
+-- fields of two numbers' disjunction
+pub field-or : (b j w m : ℕ) → field b j (bitOr w m) ≡ bitOr (field b j w) (field b j m)
+unfolding field
+field-or b j w m = ap (λ (z : ℕ). z % 2 ^ b) (or-shr w m (b * j)) ∙ or-mod (w / 2 ^ (b * j)) (m / 2 ^ (b * j)) b

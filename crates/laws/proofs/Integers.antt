@@ -2,12 +2,14 @@
 -- truncated difference above the lowest number. Assumes nothing.
 use mathlib.Core.Path.{_≡_, refl, sym, _∙_, ap, ap₂, subst}
 use mathlib.Core.Bool.{Bool, true, false, not}
+use mathlib.Core.Logic.{_↔_, _⊎_, inl, inr}
 use Prim.Native.Nat.{ℕ, zero, suc, _+_, _*_, _-_, _/_, _%_, _^_, _<_, _≤_, min}
 use native.Mathlib.Omega.{arith}
-use lib.Dec.{T, ltb, ltb→lt, nltb→le}
-use lib.IntN.{ℤ, pos, negsuc, subℕ, _+ℤ_, _*ℤ_}
+use borrow.Author.Tests.{leb-true, leb-false, le-leb, lt-leb}
+use lib.Dec.{T, ltb, leb, ltb→lt, nltb→le}
+use lib.IntN.{ℤ, pos, negsuc, natAbs, subℕ, _+ℤ_, _*ℤ_}
 use Rattle.laws.specs.Choice.{if_then_else_}
-use Rattle.laws.specs.Integers.{value, sumZ, int32, word32, clamp}
+use Rattle.laws.specs.Integers.{value, sumZ, int32, word32, clamp, outside}
 use Rattle.laws.specs.Totals.{Wraps}
 use Rattle.laws.proofs.Differences.{Norm, plus, minus, norm, is-pos, is-neg, sub-eq, sub-add, sub-mul, up, down, as-diff}
 
@@ -139,3 +141,41 @@ clamp-in n h = let e : min n 2147483647 ≡ n = omega arith in (ap pos e, ap neg
 pub clamp-past : (n : ℕ) → 2147483647 ≤ n → (clamp (pos n) ≡ pos 2147483647) × (clamp (negsuc n) ≡ negsuc 2147483647)
 unfolding clamp
 clamp-past n h = let e : min n 2147483647 ≡ 2147483647 = omega arith in (ap pos e, ap negsuc e)
+
+-- outside is below the lowest number or past the highest
+inside-by : (t n : ℕ) → Norm t (2 ^ 31 + n) → n ≤ t → t < 2 ^ 32 + n → outside (subℕ t (2 ^ 31 + n)) ≡ 0
+unfolding outside
+inside-by t n (plus c e) low high = rw (is-pos t (2 ^ 31 + n) c e, le-leb c 2147483647 (omega arith)) refl
+inside-by t n (minus c e) low high = rw (is-neg t (2 ^ 31 + n) c e, le-leb c 2147483647 (omega arith)) refl
+
+pub inside-is : (t n : ℕ) → n ≤ t → t < 2 ^ 32 + n → outside (subℕ t (2 ^ 31 + n)) ≡ 0
+inside-is t n low high = inside-by t n (norm t (2 ^ 31 + n)) low high
+
+outside-by : (t n : ℕ) → Norm t (2 ^ 31 + n) → (t < n) ⊎ (2 ^ 32 + n ≤ t) → outside (subℕ t (2 ^ 31 + n)) ≡ 1
+unfolding outside
+outside-by t n (plus c e) (inl h) = absurd (omega arith)
+outside-by t n (plus c e) (inr h) = rw (is-pos t (2 ^ 31 + n) c e, lt-leb c 2147483647 (omega arith)) refl
+outside-by t n (minus c e) (inl h) = rw (is-neg t (2 ^ 31 + n) c e, lt-leb c 2147483647 (omega arith)) refl
+outside-by t n (minus c e) (inr h) = absurd (omega arith)
+
+pub outside-is : (t n : ℕ) → (t < n) ⊎ (2 ^ 32 + n ≤ t) → outside (subℕ t (2 ^ 31 + n)) ≡ 1
+outside-is t n h = outside-by t n (norm t (2 ^ 31 + n)) h
+
+at-most-one : (t : Bool) → (if t then 0 else 1) ≤ 1
+at-most-one true = omega arith
+at-most-one false = omega arith
+
+pub outside-le : (z : ℤ) → outside z ≤ 1
+unfolding outside
+outside-le (pos n) = at-most-one (leb n 2147483647)
+outside-le (negsuc n) = at-most-one (leb n 2147483647)
+
+-- a number is inside exactly where the clamp leaves it alone
+left-by : (n : ℕ) (t : Bool) → leb n 2147483647 ≡ t → (_≡_ {A = ℕ} (if t then 0 else 1) 0) ↔ (min n 2147483647 ≡ n)
+left-by n true e = let h = leb-true n 2147483647 e in (λ _. omega arith, λ _. refl)
+left-by n false e = let h = leb-false n 2147483647 e in (λ z. absurd (omega arith), λ m. absurd (omega arith))
+
+pub left-alone : (z : ℤ) → (outside z ≡ 0) ↔ (clamp z ≡ z)
+unfolding outside clamp
+left-alone (pos n) = let h = left-by n (leb n 2147483647) refl in (λ e. ap pos (h .0 e), λ e. h .1 (ap natAbs e))
+left-alone (negsuc n) = let h = left-by n (leb n 2147483647) refl in (λ e. ap negsuc (h .0 e), λ e. h .1 (omega (arith, ap natAbs e)))

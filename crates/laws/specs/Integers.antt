@@ -2,7 +2,7 @@
 use Prim.Native.Nat.{ℕ, zero, suc, _*_, _-_, _%_, _^_, min}
 use mathlib.Core.Bool.{Bool, true, false}
 use lib.IntN.{ℤ, pos, negsuc, subℕ, _+ℤ_}
-use Rattle.laws.specs.Choice.{if_then_else_, _<?_}
+use Rattle.laws.specs.Choice.{if_then_else_, _<?_, _≤?_}
 
 -- a pattern whose sign bit weighs half: read as unsigned, itself; as signed, in two's complement
 unfoldable pub value : (unsigned : Bool) → (half x : ℕ) → ℤ
@@ -27,3 +27,8 @@ word32 (negsuc n) = 2 ^ 32 - 1 - n % 2 ^ 32
 unfoldable pub clamp : ℤ → ℤ
 clamp (pos n) = pos (min n 2147483647)
 clamp (negsuc n) = negsuc (min n 2147483647)
+
+-- 0 for a number in there, and 1 for one outside
+unfoldable pub outside : ℤ → ℕ
+outside (pos n) = if n ≤? 2147483647 then 0 else 1
+outside (negsuc n) = if n ≤? 2147483647 then 0 else 1
