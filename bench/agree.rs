@@ -8,6 +8,10 @@ use crate::wazimroot::{Calls, Run, Table, MAX_BLOCKS, RUN_WORDS};
 
 const TRIALS: usize = 20_000;
 
+/// Sums of a run, and words of its marks.
+const SUMS: usize = 128;
+const MARK_WORDS: usize = 4;
+
 pub fn agree(calls: &[Table], random: &mut Random) {
     for _ in 0..TRIALS {
         unpacks(calls, random);
@@ -82,6 +86,12 @@ fn runs(calls: &[Table], random: &mut Random) {
         let mut d = before.clone();
         (calls.read(&by_hand, &mut d), d)
     });
+    let n = some_length(random, MARK_WORDS);
+    let before = random.words(n);
+    same("marks", calls, |calls| {
+        let mut marks = before.clone();
+        (calls.marks(&by_hand, &mut marks), marks)
+    });
 }
 
 fn scales(calls: &[Table], random: &mut Random) {
@@ -141,16 +151,45 @@ fn some_warp(random: &mut Random, kind: u32, role: u32) -> Vec<u32> {
 }
 
 fn extreme(word: u32) -> u32 {
+    let near = word / 4 % [16, 4096][word as usize / 2 % 2];
     match word % 2 {
-        0 => 0x7fff_ffff - word % 4096,
-        _ => 0x8000_0000 + word % 4096,
+        0 => 0x7fff_ffff - near,
+        _ => 0x8000_0000 + near,
     }
 }
 
+/// Sums are random or, so that some are clamped, extreme.
 fn some_run(random: &mut Random, [kind, signs, mode]: [u32; 3]) -> Run {
     let mut run = [0; RUN_WORDS];
     run.copy_from_slice(&random.words(RUN_WORDS));
     let blocks = MAX_BLOCKS + 1 - random.below(4);
     run[..4].copy_from_slice(&[kind, signs, mode, blocks]);
+    let (sums, marks) = run[4..].split_at_mut(SUMS);
+    if random.below(2) == 0 {
+        sums.iter_mut().for_each(|sum| *sum = extreme(*sum));
+    }
+    fewer_marks(random, marks, words_marked(kind, mode));
     run
+}
+
+/// Leaves any, those in so many words, a single one, or none.
+fn fewer_marks(random: &mut Random, marks: &mut [u32], words: usize) {
+    match random.below(8) {
+        0 => {}
+        1 | 2 => marks[words..].fill(0),
+        3 => {
+            marks.fill(0);
+            let at = random.below(MARK_WORDS as u32);
+            marks[at as usize] = 1 << random.below(32);
+        }
+        _ => marks.fill(0),
+    }
+}
+
+/// Words of marks that a run may have: none where it cannot clamp, and none past its last sum.
+fn words_marked(kind: u32, mode: u32) -> usize {
+    if mode != 1 || [1, 13, 14].contains(&kind) {
+        return 0;
+    }
+    some_layout(kind, 2).warp_length().min(SUMS) / 32
 }

@@ -21,6 +21,7 @@ extern "C" {
     ) -> u64;
     fn plain_c_feed(run: *mut u32, a: *const u32, na: usize, b: *const u32, nb: usize) -> u64;
     fn plain_c_read(run: *const u32, d: *mut u32, nd: usize) -> u64;
+    fn plain_c_marks(run: *const u32, marks: *mut u32, n: usize) -> u64;
     fn plain_c_scale(
         size: u32, side: u32, byte_id: u32, thread_id: u32, metadata: *const u32, nm: usize,
         out: *mut i32, no: usize,
@@ -39,6 +40,7 @@ static TABLES: [Table; 3] = [
         open: plain_c_open,
         feed: plain_c_feed,
         read: plain_c_read,
+        marks: plain_c_marks,
         scale: plain_c_scale,
         ..LIBRARY
     },
@@ -49,6 +51,7 @@ static TABLES: [Table; 3] = [
         open: plain::plain_rust_open,
         feed: plain::plain_rust_feed,
         read: plain::plain_rust_read,
+        marks: plain::plain_rust_marks,
         scale: plain::plain_rust_scale,
         ..LIBRARY
     },

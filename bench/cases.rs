@@ -45,6 +45,7 @@ pub fn all(random: &mut Random) -> Vec<Case> {
         cases.extend([0, 1].map(|mode| step(random, kind, signs, mode)));
     }
     cases.extend([0, 1].map(|mode| run(random, mode)));
+    cases.push(marks(random));
     cases.push(scale(random, 4, 0));
     cases.push(scale(random, 1, 1));
     cases
@@ -103,6 +104,21 @@ fn run(random: &mut Random, mode: u32) -> Case {
         }
         refused | calls.read(&run, &mut d)
     })
+}
+
+/// Of runs that clamp, with random sums and marks.
+fn marks(random: &mut Random) -> Case {
+    let runs = inputs(|_| {
+        let mut run = [0; RUN_WORDS];
+        run.copy_from_slice(&random.words(RUN_WORDS));
+        run[..4].copy_from_slice(&[3, 0, 1, MAX_BLOCKS]);
+        run
+    });
+    let mut marks = [0; 4];
+    case(
+        "marks of a run of kind 3".to_string(),
+        move |calls, turn| calls.marks(&runs[turn], &mut marks),
+    )
 }
 
 fn scale(random: &mut Random, size: u32, side: u32) -> Case {

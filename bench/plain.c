@@ -244,9 +244,9 @@ static uint32_t limited(int64_t total, uint32_t mode) {
     return (uint32_t)total;
 }
 
-/* d may be c: a word of D needs no other word of C. */
+/* d may be c: a word of D needs no other word of C. Where marks is not null, a word that was clamped sets its mark. */
 static void integer_step(uint32_t kind, uint32_t signs, uint32_t mode, const uint32_t *a, const uint32_t *b, const uint32_t *c,
-                         uint32_t *d) {
+                         uint32_t *d, uint32_t *marks) {
     size_t m = KINDS[kind - 1].m, k = KINDS[kind - 1].k;
     struct layout l = layout_of(kind, ROLE_C);
     int32_t left[MAX_M * MAX_K], right[MAX_K * N], products[MAX_M * N] = {0};
@@ -260,7 +260,10 @@ static void integer_step(uint32_t kind, uint32_t signs, uint32_t mode, const uin
         for (size_t group = 0; group < l.groups; group++)
             for (size_t i = 0; i < l.side; i++) {
                 size_t word = lane * l.words + group * l.side + i;
-                d[word] = limited((int64_t)(int32_t)c[word] + products[index_of(&l, lane, group, i)], mode);
+                int64_t total = (int64_t)(int32_t)c[word] + products[index_of(&l, lane, group, i)];
+                d[word] = limited(total, mode);
+                if (marks && (total < INT32_MIN || total > INT32_MAX))
+                    marks[word / WORD_BITS] |= 1u << word % WORD_BITS;
             }
 }
 
@@ -307,13 +310,14 @@ static int is_arithmetic(uint32_t kind) {
     return kind <= 5 || kind >= 11;
 }
 
-static void work(uint32_t kind, uint32_t signs, uint32_t mode, const uint32_t *a, const uint32_t *b, const uint32_t *c, uint32_t *d) {
+static void work(uint32_t kind, uint32_t signs, uint32_t mode, const uint32_t *a, const uint32_t *b, const uint32_t *c, uint32_t *d,
+                 uint32_t *marks) {
     if (kind == 1)
         short_one_bit_step(mode, a, b, c, d);
     else if (is_one_bit(kind))
         long_one_bit_step(kind, mode, a, b, c, d);
     else
-        integer_step(kind, signs, mode, a, b, c, d);
+        integer_step(kind, signs, mode, a, b, c, d, marks);
 }
 
 static int bad_selectors(uint32_t kind, uint32_t signs, uint32_t mode) {
@@ -347,17 +351,31 @@ uint64_t plain_c_step(uint32_t kind, uint32_t signs, uint32_t mode, const uint32
         return refusal(WZ_WRONG_LENGTH, 2);
     if (nd != words_of(kind, ROLE_C))
         return refusal(WZ_WRONG_LENGTH, 3);
-    work(kind, signs, mode, a, b, c, d);
+    work(kind, signs, mode, a, b, c, d, NULL);
     return 0;
 }
 
 /* A run's words, in the order of the interface. */
 enum { RUN_KIND, RUN_SIGNS, RUN_MODE, RUN_BLOCKS, RUN_SUMS };
+enum { MARK_WORDS = 4, RUN_MARKS = WZ_RUN_WORDS - MARK_WORDS };
+
+static int can_clamp(const uint32_t *run) {
+    return run[RUN_MODE] == 1 && !is_one_bit(run[RUN_KIND]);
+}
+
+/* Past the last sum, or in a run that cannot clamp. */
+static int stray_mark(const uint32_t *run) {
+    size_t first = can_clamp(run) ? words_of(run[RUN_KIND], ROLE_C) / WORD_BITS : 0;
+    uint32_t stray = 0;
+    for (size_t at = first; at < MARK_WORDS; at++)
+        stray |= run[RUN_MARKS + at];
+    return stray != 0;
+}
 
 static int bad_run(const uint32_t *run) {
     uint32_t kind = run[RUN_KIND];
     return kind < 1 || kind > KINDS_COUNT || !is_arithmetic(kind) || bad_selectors(kind, run[RUN_SIGNS], run[RUN_MODE]) ||
-           run[RUN_BLOCKS] > WZ_MAX_BLOCKS;
+           run[RUN_BLOCKS] > WZ_MAX_BLOCKS || stray_mark(run);
 }
 
 uint64_t plain_c_open(uint32_t kind, uint32_t signs, uint32_t mode, const uint32_t *c, size_t nc, uint32_t run[WZ_RUN_WORDS]) {
@@ -384,7 +402,7 @@ uint64_t plain_c_feed(uint32_t run[WZ_RUN_WORDS], const uint32_t *a, size_t na, 
         return refusal(WZ_WRONG_LENGTH, 0);
     if (nb != words_of(kind, ROLE_B))
         return refusal(WZ_WRONG_LENGTH, 1);
-    work(kind, run[RUN_SIGNS], run[RUN_MODE], a, b, sums, sums);
+    work(kind, run[RUN_SIGNS], run[RUN_MODE], a, b, sums, sums, can_clamp(run) ? run + RUN_MARKS : NULL);
     run[RUN_BLOCKS]++;
     return 0;
 }
@@ -395,6 +413,15 @@ uint64_t plain_c_read(const uint32_t run[WZ_RUN_WORDS], uint32_t *d, size_t nd) 
     if (nd != words_of(run[RUN_KIND], ROLE_C))
         return refusal(WZ_WRONG_LENGTH, 0);
     memcpy(d, run + RUN_SUMS, nd * sizeof *d);
+    return 0;
+}
+
+uint64_t plain_c_marks(const uint32_t run[WZ_RUN_WORDS], uint32_t *marks, size_t n) {
+    if (bad_run(run))
+        return refusal(WZ_BAD_RUN, 0);
+    if (n != MARK_WORDS)
+        return refusal(WZ_WRONG_LENGTH, 0);
+    memcpy(marks, run + RUN_MARKS, n * sizeof *marks);
     return 0;
 }
 

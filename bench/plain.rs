@@ -250,8 +250,14 @@ fn limited(total: i64, mode: u32) -> u32 {
     }
 }
 
-/// The sums are C before and D after.
-fn integer_step(kind: u32, signs: u32, mode: u32, a: &[u32], b: &[u32], sums: &mut [u32]) {
+/// The sums are C before and D after. Where there are marks, a sum that was clamped sets its mark.
+fn integer_step(
+    (kind, signs, mode): (u32, u32, u32),
+    a: &[u32],
+    b: &[u32],
+    sums: &mut [u32],
+    mut marks: Option<&mut Marks>,
+) {
     let k = KINDS[kind as usize - 1].k;
     let mut left = [0; MAX_M * MAX_K];
     let mut right = [0; MAX_K * N];
@@ -271,7 +277,14 @@ fn integer_step(kind: u32, signs: u32, mode: u32, a: &[u32], b: &[u32], sums: &m
             for i in 0..l.side {
                 let sum = &mut own[group * l.side + i];
                 let product = products[l.index(lane, group, i)];
-                *sum = limited(*sum as i32 as i64 + product as i64, mode);
+                let total = *sum as i32 as i64 + product as i64;
+                *sum = limited(total, mode);
+                if let Some(marks) = &mut marks {
+                    if i32::try_from(total).is_err() {
+                        let word = lane * l.words + group * l.side + i;
+                        marks[word / WORD_BITS] |= 1 << (word % WORD_BITS);
+                    }
+                }
             }
         }
     }
@@ -324,13 +337,19 @@ fn is_arithmetic(kind: u32) -> bool {
     kind <= 5 || kind >= 11
 }
 
-fn work(kind: u32, signs: u32, mode: u32, a: &[u32], b: &[u32], sums: &mut [u32]) {
+fn work(
+    (kind, signs, mode): (u32, u32, u32),
+    a: &[u32],
+    b: &[u32],
+    sums: &mut [u32],
+    marks: Option<&mut Marks>,
+) {
     if kind == 1 {
         short_one_bit_step(mode, a, b, sums)
     } else if is_one_bit(kind) {
         long_one_bit_step(kind, mode, a, b, sums)
     } else {
-        integer_step(kind, signs, mode, a, b, sums)
+        integer_step((kind, signs, mode), a, b, sums, marks)
     }
 }
 
@@ -368,9 +387,13 @@ fn step(
     judge_length(c.len(), words_of(kind, ROLE_C), 2)?;
     judge_length(d.len(), words_of(kind, ROLE_C), 3)?;
     d.copy_from_slice(c);
-    work(kind, signs, mode, a, b, d);
+    work((kind, signs, mode), a, b, d, None);
     Ok(())
 }
+
+const MARK_WORDS: usize = 4;
+const SUMS: usize = RUN_WORDS - 4 - MARK_WORDS;
+type Marks = [u32; MARK_WORDS];
 
 /// A run's words, in the order of the interface.
 #[repr(C)]
@@ -379,7 +402,8 @@ pub struct Run {
     signs: u32,
     mode: u32,
     blocks: u32,
-    sums: [u32; RUN_WORDS - 4],
+    sums: [u32; SUMS],
+    marks: Marks,
 }
 
 impl Run {
@@ -389,7 +413,8 @@ impl Run {
             signs: 0,
             mode: 0,
             blocks: 0,
-            sums: [0; RUN_WORDS - 4],
+            sums: [0; SUMS],
+            marks: [0; MARK_WORDS],
         };
         judge_selectors(kind, signs, mode)?;
         judge_length(c.len(), words_of(kind, ROLE_C), 0)?;
@@ -400,9 +425,27 @@ impl Run {
         Ok(())
     }
 
+    fn can_clamp(&self) -> bool {
+        self.mode == 1 && !is_one_bit(self.kind)
+    }
+
+    /// Past the last sum, or in a run that cannot clamp.
+    fn stray_mark(&self) -> bool {
+        let first = if self.can_clamp() {
+            words_of(self.kind, ROLE_C) / WORD_BITS
+        } else {
+            0
+        };
+        self.marks[first..].iter().any(|word| *word != 0)
+    }
+
     fn judge(&self) -> Judged {
         let known = known_kind(self.kind) && is_arithmetic(self.kind);
-        if !known || bad_selectors(self.kind, self.signs, self.mode) || self.blocks > MAX_BLOCKS {
+        if !known
+            || bad_selectors(self.kind, self.signs, self.mode)
+            || self.blocks > MAX_BLOCKS
+            || self.stray_mark()
+        {
             return refused(BAD_RUN, 0);
         }
         Ok(())
@@ -416,14 +459,9 @@ impl Run {
         judge_length(a.len(), words_of(self.kind, ROLE_A), 0)?;
         judge_length(b.len(), words_of(self.kind, ROLE_B), 1)?;
         let used = words_of(self.kind, ROLE_C);
-        work(
-            self.kind,
-            self.signs,
-            self.mode,
-            a,
-            b,
-            &mut self.sums[..used],
-        );
+        let selectors = (self.kind, self.signs, self.mode);
+        let marks = self.can_clamp().then_some(&mut self.marks);
+        work(selectors, a, b, &mut self.sums[..used], marks);
         self.blocks += 1;
         Ok(())
     }
@@ -433,6 +471,13 @@ impl Run {
         let used = words_of(self.kind, ROLE_C);
         judge_length(d.len(), used, 0)?;
         d.copy_from_slice(&self.sums[..used]);
+        Ok(())
+    }
+
+    fn marks(&self, marks: &mut [u32]) -> Judged {
+        self.judge()?;
+        judge_length(marks.len(), MARK_WORDS, 0)?;
+        marks.copy_from_slice(&self.marks);
         Ok(())
     }
 }
@@ -566,6 +611,11 @@ pub unsafe extern "C" fn plain_rust_feed(
 pub unsafe extern "C" fn plain_rust_read(run: *const u32, d: *mut u32, nd: usize) -> u64 {
     let run = &*run.cast::<Run>();
     answer(run.read(from_raw_parts_mut(d, nd)))
+}
+
+pub unsafe extern "C" fn plain_rust_marks(run: *const u32, marks: *mut u32, n: usize) -> u64 {
+    let run = &*run.cast::<Run>();
+    answer(run.marks(from_raw_parts_mut(marks, n)))
 }
 
 pub unsafe extern "C" fn plain_rust_scale(

@@ -38,12 +38,13 @@ enum {
     WZ_TOO_WIDE = 7, /* detail: index of the first entry that does not fit */
     WZ_BAD_SCALE = 8, /* detail: which selector, counted from 0 */
     WZ_RUN_FULL = 9,
-    WZ_BAD_RUN = 10,
+    WZ_BAD_RUN = 10, /* by its kind, selectors or number, or a mark past the last sum or in a run that cannot clamp */
     WZ_SCALE_NAN = 12 /* a chosen byte is 255; detail: index of the first in the output */
 };
 
-/* Words of a run: kind, signs, mode, number of accepted blocks, then 128 sums in D's warp buffer order. */
-#define WZ_RUN_WORDS 132
+/* Words of a run: kind, signs, mode, number of accepted blocks, then 128 sums in D's warp buffer order, then 4 words of marks: mark j is
+   bit j mod 32 of word j div 32 and belongs to sum word j. */
+#define WZ_RUN_WORDS 136
 #define WZ_MAX_BLOCKS 4096
 
 /* Where an element of a lane sits: out is its row, its column, its word within the lane, its lowest bit in that word; of a 64-bit element
@@ -67,14 +68,18 @@ uint64_t wz_step(uint32_t kind, uint32_t signs, uint32_t mode, const uint32_t *a
 uint64_t wz_plain_step(uint32_t kind, const uint32_t *a, size_t na, const uint32_t *b, size_t nb, const uint32_t *c, size_t nc,
                        uint32_t *d, size_t nd);
 
-/* A newly opened run, whose sums are C's words. A refused opening writes a run that is 0 throughout. */
+/* A newly opened run, whose sums are C's words, none of them marked. A refused opening writes a run that is 0 throughout. */
 uint64_t wz_open(uint32_t kind, uint32_t signs, uint32_t mode, const uint32_t *c, size_t nc, uint32_t run[WZ_RUN_WORDS]);
 
-/* The run with one block more. A refused feed leaves it as it was. */
+/* The run with one block more. A sum that it clamps is marked from then on; one that reaches a limit exactly is not clamped. A refused
+   feed leaves the run as it was. */
 uint64_t wz_feed(uint32_t run[WZ_RUN_WORDS], const uint32_t *a, size_t na, const uint32_t *b, size_t nb);
 
 /* The used sums of a run, into D. */
 uint64_t wz_read(const uint32_t run[WZ_RUN_WORDS], uint32_t *d, size_t nd);
+
+/* The marks of a run, 4 words, all 0 in a run that cannot clamp: one with mode 0 or of a one-bit kind. */
+uint64_t wz_marks(const uint32_t run[WZ_RUN_WORDS], uint32_t *marks, size_t n);
 
 /* The exponents of the chosen scale bytes, -127 to 127: lanes ascending, low byte first, each byte less 127. 255 is not a number: in a
    chosen byte it is refused, and in another it does not matter. */

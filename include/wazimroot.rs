@@ -23,7 +23,7 @@ pub const RUN_FULL: u32 = 9;
 pub const BAD_RUN: u32 = 10;
 pub const SCALE_NAN: u32 = 12;
 
-pub const RUN_WORDS: usize = 132;
+pub const RUN_WORDS: usize = 136;
 pub const MAX_BLOCKS: u32 = 4096;
 pub type Run = [u32; RUN_WORDS];
 
@@ -59,6 +59,7 @@ declare! {
     open: wz_open(kind: u32, signs: u32, mode: u32, c: *const u32, nc: usize, run: *mut u32);
     feed: wz_feed(run: *mut u32, a: *const u32, na: usize, b: *const u32, nb: usize);
     read: wz_read(run: *const u32, d: *mut u32, nd: usize);
+    marks: wz_marks(run: *const u32, marks: *mut u32, n: usize);
     scale: wz_scale(
         size: u32, side: u32, byte_id: u32, thread_id: u32, metadata: *const u32, nm: usize,
         out: *mut i32, no: usize);
@@ -77,6 +78,7 @@ pub trait Calls {
     fn open(&self, selector: [u32; 3], c: &[u32], run: &mut Run) -> u64;
     fn feed(&self, run: &mut Run, a: &[u32], b: &[u32]) -> u64;
     fn read(&self, run: &Run, d: &mut [u32]) -> u64;
+    fn marks(&self, run: &Run, marks: &mut [u32]) -> u64;
     /// The selector is size, side, byte-id, thread-id.
     fn scale(&self, selector: [u32; 4], metadata: &[u32], out: &mut [i32]) -> u64;
     fn template_read(&self, record: &[u8], words: &mut [u32]) -> u64;
@@ -129,6 +131,10 @@ impl Calls for Table {
 
     fn read(&self, run: &Run, d: &mut [u32]) -> u64 {
         unsafe { (self.read)(run.as_ptr(), d.as_mut_ptr(), d.len()) }
+    }
+
+    fn marks(&self, run: &Run, marks: &mut [u32]) -> u64 {
+        unsafe { (self.marks)(run.as_ptr(), marks.as_mut_ptr(), marks.len()) }
     }
 
     fn scale(&self, selector: [u32; 4], metadata: &[u32], out: &mut [i32]) -> u64 {

@@ -80,6 +80,10 @@ impl Calls for Rules {
         run::read(&self.layouts, run, d)
     }
 
+    fn marks(&self, run: &Run, marks: &mut [u32]) -> u64 {
+        run::marks(&self.layouts, run, marks)
+    }
+
     fn scale(&self, selector: [u32; 4], metadata: &[u32], out: &mut [i32]) -> u64 {
         scale::scale(selector, metadata, out)
     }

@@ -29,8 +29,10 @@ const PLACES: [([u32; 4], [u32; 4]); 15] = [
 const REVERSE: [([u32; 4], [u32; 2]); 2] = [([4, 0, 9, 13], [5, 13]), ([9, 0, 15, 7], [31, 3])];
 
 const MOST: u32 = 2_147_483_647;
-/// Four bytes of -128.
+const LEAST: u32 = 1 << 31;
+/// Four bytes of -128, and of 127.
 const LEAST_BYTES: u32 = 0x8080_8080;
+const MOST_BYTES: u32 = 0x7f7f_7f7f;
 
 /// Kind, signs, mode; every word of A, B and C; every word of D.
 const STEPS: [([u32; 3], [u32; 3], i32); 15] = [
@@ -60,6 +62,68 @@ fn lengths(kind: u32) -> [usize; 3] {
         _ => [128, 64, 128],
     }
 }
+
+const NO_MARK: [u32; 4] = [0; 4];
+const ALL_MARKS: [u32; 4] = [u32::MAX; 4];
+
+/// K12: every word of C on opening; then for each block every word of A and B, every sum after it,
+/// and the marks. Kind 3, signs 0, mode 1.
+type Marked = (u32, &'static [([u32; 2], i32, [u32; 4])]);
+
+const MARKED: [Marked; 4] = [
+    (
+        MOST,
+        &[
+            ([0, 0], 2_147_483_647, NO_MARK),
+            ([LEAST_BYTES, LEAST_BYTES], 2_147_483_647, ALL_MARKS),
+            ([LEAST_BYTES, MOST_BYTES], 2_146_963_455, ALL_MARKS),
+            ([0, 0], 2_146_963_455, ALL_MARKS),
+        ],
+    ),
+    (
+        LEAST,
+        &[
+            ([0, 0], -2_147_483_648, NO_MARK),
+            ([LEAST_BYTES, MOST_BYTES], -2_147_483_648, ALL_MARKS),
+            ([LEAST_BYTES, LEAST_BYTES], -2_146_959_360, ALL_MARKS),
+        ],
+    ),
+    (
+        MOST - 524_288,
+        &[
+            ([LEAST_BYTES, LEAST_BYTES], 2_147_483_647, NO_MARK),
+            ([LEAST_BYTES, MOST_BYTES], 2_146_963_455, NO_MARK),
+        ],
+    ),
+    (
+        LEAST + 520_192,
+        &[
+            ([LEAST_BYTES, MOST_BYTES], -2_147_483_648, NO_MARK),
+            ([LEAST_BYTES, LEAST_BYTES], -2_146_959_360, NO_MARK),
+        ],
+    ),
+];
+
+/// K12: kind; the word of C that is 2,147,483,647, the others being 0; the marks after the -128
+/// block. Signs 0, mode 1.
+const ONE_MARK: [(u32, usize, [u32; 4]); 6] = [
+    (3, 0, [1, 0, 0, 0]),
+    (3, 31, [1 << 31, 0, 0, 0]),
+    (3, 32, [0, 1, 0, 0]),
+    (3, 127, [0, 0, 0, 1 << 31]),
+    (11, 5, [1 << 5, 0, 0, 0]),
+    (11, 63, [0, 1 << 31, 0, 0]),
+];
+
+/// K12: kind, signs, mode; the mark that a run made up by hand has; the answer where it is read.
+const BY_HAND: [([u32; 3], usize, u64); 6] = [
+    ([11, 0, 1], 63, 0),
+    ([11, 0, 1], 64, 10),
+    ([3, 3, 1], 127, 0),
+    ([3, 3, 0], 127, 10),
+    ([1, 0, 1], 0, 10),
+    ([14, 0, 1], 0, 10),
+];
 
 /// Size, byte-id; the numbers of one lane with the metadata word 807F0100.
 const SCALES: [(u32, u32, &[i32]); 5] = [
@@ -148,9 +212,16 @@ fn run_sums(calls: &dyn Calls, run: &[u32; WORDS], paper: i32) -> Result<(), Dif
     Ok(())
 }
 
+fn run_marks(calls: &dyn Calls, run: &[u32; WORDS], paper: [u32; 4]) -> Result<(), Difference> {
+    let mut marks = [0x5a5a_5a5a; 4];
+    let answer = calls.marks(run, &mut marks);
+    let figure = || format!("marks after {} blocks", run[3]);
+    equal(figure, (answer, marks), (0, paper))
+}
+
 /// The -128 block fed 4,095 times, once more, and once too often.
 fn runs(calls: &dyn Calls) -> Result<(), Difference> {
-    for (mode, paper) in [(0, -2_147_483_648), (1, 2_147_483_647)] {
+    for (mode, paper, marks) in [(0, -2_147_483_648, NO_MARK), (1, 2_147_483_647, ALL_MARKS)] {
         let (a, b) = ([LEAST_BYTES; 128], [LEAST_BYTES; 64]);
         let mut run = [u32::MAX; WORDS];
         let figure = || format!("run of kind 3, mode {mode}");
@@ -159,8 +230,10 @@ fn runs(calls: &dyn Calls) -> Result<(), Difference> {
             accepted(figure, calls.feed(&mut run, &a, &b))?;
         }
         run_sums(calls, &run, 2_146_959_360)?;
+        run_marks(calls, &run, NO_MARK)?;
         accepted(figure, calls.feed(&mut run, &a, &b))?;
         run_sums(calls, &run, paper)?;
+        run_marks(calls, &run, marks)?;
         let full = run;
         let answer = calls.feed(&mut run, &a, &b);
         equal(figure, (answer, run), (9, full))?;
@@ -176,7 +249,59 @@ fn most_ones(calls: &dyn Calls) -> Result<(), Difference> {
     for _ in 0..4096 {
         accepted(figure, calls.feed(&mut run, &[u32::MAX; 128], &[0; 64]))?;
     }
-    run_sums(calls, &run, 1_048_576)
+    run_sums(calls, &run, 1_048_576)?;
+    run_marks(calls, &run, NO_MARK)
+}
+
+fn marked_run(calls: &dyn Calls, (c, blocks): Marked) -> Result<(), Difference> {
+    let mut run = [u32::MAX; WORDS];
+    let figure = || format!("marks of a run from {}", c as i32);
+    accepted(figure, calls.open([3, 0, 1], &[c; 128], &mut run))?;
+    run_marks(calls, &run, NO_MARK)?;
+    for &([a, b], sum, marks) in blocks {
+        accepted(figure, calls.feed(&mut run, &[a; 128], &[b; 64]))?;
+        run_sums(calls, &run, sum)?;
+        run_marks(calls, &run, marks)?;
+    }
+    Ok(())
+}
+
+fn one_mark(calls: &dyn Calls, kind: u32, word: usize, paper: [u32; 4]) -> Result<(), Difference> {
+    let [na, nb, nc] = lengths(kind);
+    let mut c = vec![0; nc];
+    c[word] = MOST;
+    let mut run = [u32::MAX; WORDS];
+    let figure = || format!("mark {word} of kind {kind}");
+    accepted(figure, calls.open([kind, 0, 1], &c, &mut run))?;
+    let (a, b) = (vec![LEAST_BYTES; na], vec![LEAST_BYTES; nb]);
+    accepted(figure, calls.feed(&mut run, &a, &b))?;
+    run_marks(calls, &run, paper)
+}
+
+/// The mark is read, or the run refused and nothing written.
+fn by_hand(calls: &dyn Calls, selector: [u32; 3], j: usize, paper: u64) -> Result<(), Difference> {
+    let mut run = [0; WORDS];
+    run[..3].copy_from_slice(&selector);
+    run[132 + j / 32] = 1 << (j % 32);
+    let figure = || format!("run {selector:?} with mark {j}");
+    let mut marks = [7; 4];
+    let answer = calls.marks(&run, &mut marks);
+    let written = if paper == 0 { &run[132..] } else { &[7; 4] };
+    equal(figure, (answer, &marks[..]), (paper, written))
+}
+
+/// K12.
+fn marks(calls: &dyn Calls) -> Result<(), Difference> {
+    for run in MARKED {
+        marked_run(calls, run)?;
+    }
+    for (kind, word, paper) in ONE_MARK {
+        one_mark(calls, kind, word, paper)?;
+    }
+    for (selector, j, paper) in BY_HAND {
+        by_hand(calls, selector, j, paper)?;
+    }
+    Ok(())
 }
 
 /// On both sides, with this metadata word in every lane, each lane gives these numbers.
@@ -251,10 +376,11 @@ fn templates(calls: &dyn Calls) -> Result<(), Difference> {
 /// A figure group: its name and its check.
 type Group = (&'static str, fn(&dyn Calls) -> Result<(), Difference>);
 
-const GROUPS: [Group; 5] = [
+const GROUPS: [Group; 6] = [
     ("places", places),
     ("steps", steps),
     ("runs", runs),
+    ("marks", marks),
     ("scales", scales),
     ("templates", templates),
 ];

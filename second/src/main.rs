@@ -24,8 +24,8 @@ mod wazimroot;
 
 use calls::Rules;
 use compare::{
-    fragments, lengths, orders, places, probes, products, runs, scales, steps, tables, templates,
-    trips, Bench,
+    fragments, lengths, marks, orders, places, probes, products, runs, scales, steps, tables,
+    templates, trips, Bench,
 };
 use random::Random;
 use report::{Difference, Tally};
@@ -71,7 +71,7 @@ fn arguments() -> Option<(Part, u64, u64)> {
 type Comparison = fn(&mut Bench) -> Result<Tally, Difference>;
 
 /// In such an order that the long ones fall to both parts of two.
-const COMPARISONS: [Comparison; 21] = [
+const COMPARISONS: [Comparison; 24] = [
     |bench| figures::figures(bench.library, bench.rules),
     places::wz_place,
     places::wz_find,
@@ -84,6 +84,9 @@ const COMPARISONS: [Comparison; 21] = [
     runs::wz_open,
     runs::wz_feed,
     runs::wz_read,
+    runs::wz_marks,
+    marks::single,
+    marks::limits,
     scales::wz_scale,
     scales::nans,
     templates::wz_template_read,

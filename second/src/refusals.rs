@@ -4,6 +4,7 @@ use crate::bits;
 use crate::layout::Layouts;
 use crate::rules::{A, ARITHMETIC, B, C, KINDS, ONE_BIT};
 use crate::run::{self, MAX_BLOCKS};
+use crate::step::{self, SUMS};
 
 /// Whether it applies, its number, its detail.
 type Refusal = (bool, u32, u32);
@@ -104,19 +105,27 @@ pub fn open(layouts: &Layouts, selector: [u32; 3], nc: usize) -> u64 {
     ])
 }
 
+/// K12: "a mark past the last sum or in a run that can't clamp".
+fn stray_mark(layouts: &Layouts, run: &[u32; run::WORDS]) -> bool {
+    let [kind, _, mode, _] = run::head(run);
+    let sums = words(layouts, kind, C).unwrap_or(0);
+    let mut set = (0..SUMS).filter(|&j| run::marked(&run[run::MARKS..], j));
+    set.any(|j| j >= sums || !step::clamps(kind, mode))
+}
+
 /// Refusal 10.
-fn bad_run(run: &[u32; run::WORDS]) -> Refusal {
+fn bad_run(layouts: &Layouts, run: &[u32; run::WORDS]) -> Refusal {
     let [kind, signs, mode, number] = run::head(run);
     let known = ARITHMETIC.contains(&kind);
     let bad = !known || selectors(kind, signs, mode).0 || number > MAX_BLOCKS;
-    (bad, 10, 0)
+    (bad || stray_mark(layouts, run), 10, 0)
 }
 
 /// Feed: 10, 9, 5; A, B.
 pub fn feed(layouts: &Layouts, run: &[u32; run::WORDS], na: usize, nb: usize) -> u64 {
     let [kind, _, _, number] = run::head(run);
     first(&[
-        bad_run(run),
+        bad_run(layouts, run),
         (number == MAX_BLOCKS, 9, 0),
         length(0, na, words(layouts, kind, A)),
         length(1, nb, words(layouts, kind, B)),
@@ -126,7 +135,13 @@ pub fn feed(layouts: &Layouts, run: &[u32; run::WORDS], na: usize, nb: usize) ->
 /// Read: 10, 5; D.
 pub fn read(layouts: &Layouts, run: &[u32; run::WORDS], nd: usize) -> u64 {
     let [kind, ..] = run::head(run);
-    first(&[bad_run(run), length(0, nd, words(layouts, kind, C))])
+    let needed = words(layouts, kind, C);
+    first(&[bad_run(layouts, run), length(0, nd, needed)])
+}
+
+/// Reading the marks: 10, 5; marks.
+pub fn marks(layouts: &Layouts, run: &[u32; run::WORDS], n: usize) -> u64 {
+    first(&[bad_run(layouts, run), length(0, n, Some(run::MARK_WORDS))])
 }
 
 /// Scale: 8, 5; metadata, output. Then 12, by the chosen bytes.

@@ -1,18 +1,32 @@
-//! "Runs": a run is its selectors, its number of accepted blocks and 128 sums, in the words of the
-//! C interface.
+//! "Runs": a run is its selectors, its number of accepted blocks, 128 sums and, by K12, a mark for
+//! each sum, in the words of the C interface.
 
 use crate::layout::Layouts;
 use crate::rules::C;
+use crate::step::SUMS;
 pub use crate::wazimroot::RUN_WORDS as WORDS;
-use crate::{refusals, step};
+use crate::{bits, refusals, step};
 
 pub const MAX_BLOCKS: u32 = 4096;
 /// Where the sums begin.
 pub const HEAD: usize = 4;
+/// Where the marks begin, and their words.
+pub const MARKS: usize = HEAD + SUMS;
+pub const MARK_WORDS: usize = 4;
 
 /// Kind, signs, mode, number of accepted blocks.
 pub fn head(run: &[u32; WORDS]) -> [u32; HEAD] {
     [run[0], run[1], run[2], run[3]]
+}
+
+/// Whether a mark is set. K12: the marks are "128 bits in four words, word-buffer order, low bit
+/// first".
+pub fn marked(marks: &[u32], j: usize) -> bool {
+    bits::element(marks, j, 1) == 1
+}
+
+pub fn set_mark(marks: &mut [u32], j: usize) {
+    bits::put(marks, j, 1, 1);
 }
 
 pub fn open(layouts: &Layouts, selector: [u32; 3], c: &[u32], run: &mut [u32; WORDS]) -> u64 {
@@ -30,16 +44,15 @@ pub fn feed(layouts: &Layouts, run: &mut [u32; WORDS], a: &[u32], b: &[u32]) -> 
     if answer == 0 {
         let [kind, signs, mode, number] = head(run);
         let used = layouts.of(kind, C).buffer_length();
-        let old = *run;
-        let sums = &mut run[HEAD..HEAD + used];
-        step::step(
-            layouts,
-            [kind, signs, mode],
-            a,
-            b,
-            &old[HEAD..HEAD + used],
-            sums,
-        );
+        let clamps = step::clamps(kind, mode);
+        let old = &run[HEAD..HEAD + used];
+        let results = step::results(layouts, [kind, signs, mode], a, b, old);
+        for (j, exact) in results.into_iter().enumerate() {
+            run[HEAD + j] = step::finish(clamps, exact) as i32 as u32;
+            if clamps && step::outside(exact) {
+                set_mark(&mut run[MARKS..], j);
+            }
+        }
         run[3] = number + 1;
     }
     answer
@@ -50,6 +63,14 @@ pub fn read(layouts: &Layouts, run: &[u32; WORDS], d: &mut [u32]) -> u64 {
     if answer == 0 {
         let used = layouts.of(run[0], C).buffer_length();
         d.copy_from_slice(&run[HEAD..HEAD + used]);
+    }
+    answer
+}
+
+pub fn marks(layouts: &Layouts, run: &[u32; WORDS], marks: &mut [u32]) -> u64 {
+    let answer = refusals::marks(layouts, run, marks.len());
+    if answer == 0 {
+        marks.copy_from_slice(&run[MARKS..]);
     }
     answer
 }

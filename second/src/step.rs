@@ -1,7 +1,7 @@
 //! "One step": exact sums, finished once at the end.
 
 use crate::bits;
-use crate::layout::Layouts;
+use crate::layout::{Layout, Layouts};
 use crate::rules::{self, A, B, C, ONE_BIT};
 
 /// Entries of the greatest A or B of the arithmetic kinds.
@@ -46,14 +46,18 @@ fn numbers(layouts: &Layouts, selector: [u32; 3], role: u32, words: &[u32]) -> V
     numbers.collect()
 }
 
-/// The numbers of a C or D buffer, row-major. In the arithmetic kinds each of its elements is one
-/// word, signed.
+/// The place, row-major, of a word of a C or D buffer: in the arithmetic kinds each of its elements
+/// is one word.
+pub fn place_of_word(layout: &Layout, at: usize) -> usize {
+    layout.index(at / layout.words, at % layout.words)
+}
+
+/// The numbers of a C or D buffer, row-major; each word is signed.
 pub fn sums(layouts: &Layouts, kind: u32, words: &[u32]) -> [i64; SUMS] {
     let layout = layouts.of(kind, C);
     let mut sums = [0; SUMS];
     for (at, &word) in words.iter().enumerate() {
-        let place = layout.index(at / layout.words, at % layout.words);
-        sums[place] = i64::from(word as i32);
+        sums[place_of_word(layout, at)] = i64::from(word as i32);
     }
     sums
 }
@@ -96,6 +100,11 @@ pub fn clamps(kind: u32, mode: u32) -> bool {
     !ONE_BIT.contains(&kind) && mode == 1
 }
 
+/// Whether an exact result lies outside 32 bits.
+pub fn outside(exact: i128) -> bool {
+    !(LEAST..=GREATEST).contains(&exact)
+}
+
 /// The exact result, wrapped to 32 bits or clamped, as a signed number.
 pub fn finish(clamps: bool, exact: i128) -> i64 {
     let result = if clamps {
@@ -111,15 +120,28 @@ pub fn finish(clamps: bool, exact: i128) -> i64 {
     result as i64
 }
 
-/// D's words from A's, B's and C's; the selectors and lengths have been judged.
+/// The exact result at the place of each of C's words; the selectors and lengths have been judged.
+pub fn results(
+    layouts: &Layouts,
+    selector: [u32; 3],
+    a: &[u32],
+    b: &[u32],
+    c: &[u32],
+) -> Vec<i128> {
+    let layout = layouts.of(selector[0], C);
+    let start = sums(layouts, selector[0], c);
+    let added = contributions(layouts, selector, a, b);
+    let places = (0..c.len()).map(|at| place_of_word(layout, at));
+    places
+        .map(|place| i128::from(start[place]) + added[place])
+        .collect()
+}
+
+/// D's words from A's, B's and C's.
 pub fn step(layouts: &Layouts, selector: [u32; 3], a: &[u32], b: &[u32], c: &[u32], d: &mut [u32]) {
     let [kind, _, mode] = selector;
-    let layout = layouts.of(kind, C);
-    let start = sums(layouts, kind, c);
-    let added = contributions(layouts, selector, a, b);
-    for (at, word) in d.iter_mut().enumerate() {
-        let place = layout.index(at / layout.words, at % layout.words);
-        let exact = i128::from(start[place]) + added[place];
+    let results = results(layouts, selector, a, b, c);
+    for (word, exact) in d.iter_mut().zip(results) {
         *word = finish(clamps(kind, mode), exact) as i32 as u32;
     }
 }

@@ -88,6 +88,26 @@ pub fn fill_words(random: &mut Random, words: &mut [u32]) {
     }
 }
 
+/// Content of sums: as any words, or each by itself a sum that may soon be clamped.
+pub fn fill_sums(random: &mut Random, words: &mut [u32]) {
+    if random.one_in(2) {
+        fill_words(random, words);
+    } else {
+        words.fill_with(|| sum_word(random));
+    }
+}
+
+/// A sum: near a limit, nothing, or any. What a block adds goes from a few to two million.
+pub fn sum_word(random: &mut Random) -> u32 {
+    let near = random.pick(&[2, 1 << 4, 1 << 10, 1 << 14, 1 << 17]);
+    match random.below(4) {
+        0 => i32::MAX as u32 - random.small(near),
+        1 => i32::MIN as u32 + random.small(near),
+        2 => 0,
+        _ => random.draw() as u32,
+    }
+}
+
 /// Few bits, or none.
 fn sparse(random: &mut Random) -> u32 {
     let bit = random.draw();

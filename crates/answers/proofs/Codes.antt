@@ -1,5 +1,5 @@
 -- The C interface: the word of a call is that of its judgement, and what is left is what the call leaves. Assumes nothing.
-use mathlib.Core.Path.{_≡_, refl, sym, ap, _∙_}
+use mathlib.Core.Path.{_≡_, refl, sym, ap, subst, _∙_}
 use Prim.Native.Nat.{ℕ, _+_, _*_, _^_}
 use Rattle.answers.specs.Refusals.{Answer, given, refusal, told, after}
 use Rattle.answers.specs.Calls.{Call, judgement, giving}
@@ -59,3 +59,8 @@ module _ {X : Type 0} {call : Call X} where
           same : (q : Answer (Unit {0})) → out ≡ after q (call .gives) was → after q (f out) old ≡ after q (f (call .gives)) old
           same (given x) e = ap f e
           same (refusal n d) e = refl
+
+-- a call on what was taken out of words is the call on what is in them
+pub on-same : {X Y : Type 0} (call : Y → Call X) (old : Y → X) {y z : Y} {verdict : Verdict} {left : X} → y ≡ z
+    → Meets (call y) (old y) verdict left → Meets (call z) (old z) verdict left
+on-same {Y = Y} call old {verdict = verdict} {left = left} e m = subst (λ (y : Y). Meets (call y) (old y) verdict left) e m

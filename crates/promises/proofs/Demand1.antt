@@ -30,7 +30,7 @@ use Rattle.pack.specs.PackCall.{tooWide, packCall}
 use Rattle.template.specs.Templates.{readCall as recordReadCall, writeCall as recordWriteCall}
 use Rattle.step.specs.StepCalls.{stepCall, plainCall}
 use Rattle.run.specs.declared.Run.{Run}
-use Rattle.run.specs.RunCalls.{openCall, feedCall, readCall}
+use Rattle.run.specs.RunCalls.{openCall, feedCall, readCall, marksCall}
 use Rattle.scale.specs.Bytes.{chosenBytes}
 use Rattle.scale.specs.ScaleCall.{notANumber, scaleCall}
 use Rattle.promises.specs.Calls.{OfBench}
@@ -114,6 +114,10 @@ module _ (run : Run) (a b d : List ℕ) where
 
   pub read-order : orderOf (readCall run d .refusals) ≡ (10, 0) ∷ (5, 0) ∷ []
   read-order = refl
+
+  -- document 02, K12: 'marks are read in the order 10, 5'
+  pub marks-order : orderOf (marksCall run d .refusals) ≡ (10, 0) ∷ (5, 0) ∷ []
+  marks-order = refl
 
 pub scale-order : (size side byteId threadId : ℕ) (metadata : List ℕ) (output : List ℤ)
     → orderOf (scaleCall size side byteId threadId metadata output .refusals)

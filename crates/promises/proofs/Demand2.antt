@@ -37,7 +37,7 @@ use Rattle.buffers.proofs.Round.{lane-in, element-in, place-back, within, unpac
 use Rattle.unpack.proofs.Promises as unpacking
 use Rattle.pack.specs.PackCall.{packAnswer}
 use Rattle.pack.proofs.Promises as packing
-use Rattle.step_work.specs.Step.{entryIn, depth, signWeight, unsignedA, unsignedB, products, combinedBits, added, resultAt, results, stepped}
+use Rattle.step_work.specs.Step.{entryIn, depth, signWeight, unsignedA, unsignedB, products, combinedBits, added, resultAt, wordsD, stepped}
 use Rattle.step_limit.specs.Limits.{cellOf}
 use Rattle.step.specs.StepCalls.{stepAnswer}
 use Rattle.step_work.specs.Workers.{Ready}
@@ -199,7 +199,7 @@ pub stepped-only : (k signs mode : ℕ) → Arithmetic k → (a b c ws : List �
     → ((x : ℕ) → x < length ws → getD ws x 0 < 2 ^ 32)
     → ((row column : ℕ) → row < rowsAt k 2 → column < columnsAt k 2 → entryIn k 2 ws row column ≡ resultAt k signs mode a b c row column)
     → ws ≡ stepped k signs mode a b c
-unfolding entryIn results stepped
+unfolding entryIn wordsD stepped
 stepped-only k signs mode known a b c ws n fit at =
     let ok : Legal k 2 = record { low = known .low; high = known .high; role = omega arith } in
     let m = rowsAt k 2 in

@@ -27,10 +27,10 @@ use Rattle.step_work.specs.Workers.{Ready}
 use Rattle.step_work.proofs.Matrices.{entry-lt}
 use Rattle.step_work.proofs.Counted.{depth-le}
 use Rattle.run.specs.declared.Run.{Run}
-use Rattle.run.specs.Runs.{zeros, withUsed, usedOf, openedRun}
+use Rattle.run.specs.Runs.{zeros, noMarks, withUsed, usedOf, openedRun}
 use Rattle.run.specs.RunCalls.{openAnswer, feedAnswer, readAnswer}
 use Rattle.run.specs.Blocks.{Block, fedAll, AllAccepted, AllSized, acceptedOf, contributions, sumAt}
-use Rattle.run.proofs.Laws.{open-accepted}
+use Rattle.run.proofs.Laws.{open-accepted, opened-unstray}
 use Rattle.run.proofs.Demand.{fed-kept, accepted-all as accepted-each, sized-all}
 use Rattle.run.proofs.Promises as runs
 
@@ -55,10 +55,10 @@ module _ (k signs mode : ℕ) (c : List ℕ) (opened : openAnswer k signs mode (
   pub accepted-all : (xs : List Block)
       → AllAccepted (openedRun k signs mode c) xs ↔ ((length xs ≤ 4096) × AllSized k xs)
   unfolding openedRun
-  accepted-all xs = (there, λ s. accepted-each k signs mode ready 0 (withUsed c zeros) xs (omega (arith, s .0)) (s .1))
+  accepted-all xs = (there, λ s. accepted-each k signs mode ready 0 (withUsed c zeros) noMarks xs (opened-unstray k mode) (omega (arith, s .0)) (s .1))
     where
       there : AllAccepted (openedRun k signs mode c) xs → (length xs ≤ 4096) × AllSized k xs
-      there a = let s = sized-all k signs mode ready 0 (withUsed c zeros) xs (omega arith) a in (omega (arith, s .0), s .1)
+      there a = let s = sized-all k signs mode ready 0 (withUsed c zeros) noMarks xs (omega arith) a in (omega (arith, s .0), s .1)
 
   -- The number in the run is the number of blocks,
   pub counted : (xs : List Block) → length xs ≤ 4096 → AllSized k xs
@@ -86,7 +86,7 @@ module _ (k signs mode : ℕ) (c : List ℕ) (opened : openAnswer k signs mode (
   unfolding openedRun
   kind-kept xs =
       ap (λ (r : Run). r .kind .0) (runs.fed-accepted (openedRun k signs mode c) xs)
-      ∙ ap (λ (r : Run). r .kind .0) (fed-kept k signs mode ready 0 (withUsed c zeros) (acceptedOf (openedRun k signs mode c) xs) (runs.accepted-of (openedRun k signs mode c) xs) .1)
+      ∙ ap (λ (r : Run). r .kind .0) (fed-kept k signs mode ready 0 (withUsed c zeros) noMarks (acceptedOf (openedRun k signs mode c) xs) (runs.accepted-of (openedRun k signs mode c) xs) .2)
 
   -- and after 4,096 blocks every further one is refused 9.
   pub no-more : (xs : List Block) → length xs ≡ 4096 → AllSized k xs → (a b : List ℕ)
@@ -107,8 +107,8 @@ module _ (k signs mode : ℕ) (c : List ℕ) (opened : openAnswer k signs mode (
         → entryIn (fedAll (openedRun k signs mode c) xs .kind .0) 2 (usedOf (fedAll (openedRun k signs mode c) xs)) row column < 2 ^ 32
     unfolding openedRun
     below xs a =
-        let s = fed-kept k signs mode ready 0 (withUsed c zeros) xs a in
-        subst (λ (r : Run). entryIn (r .kind .0) 2 (usedOf (fedAll (openedRun k signs mode c) xs)) row column < 2 ^ 32) (sym (s .1))
+        let s = fed-kept k signs mode ready 0 (withUsed c zeros) noMarks xs a in
+        subst (λ (r : Run). entryIn (r .kind .0) 2 (usedOf (fedAll (openedRun k signs mode c) xs)) row column < 2 ^ 32) (sym (s .2))
         (entry-lt k (ready .of) (usedOf (fedAll (openedRun k signs mode c) xs)) row column hr hc)
 
     -- and no other signed 32-bit number is.

@@ -10,7 +10,7 @@ use Rattle.pack.specs.PackCall.{packCall}
 use Rattle.template.specs.Templates.{readCall as recordReadCall, writeCall as recordWriteCall}
 use Rattle.step.specs.StepCalls.{stepCall, plainCall}
 use Rattle.run.specs.declared.Run.{Run}
-use Rattle.run.specs.RunCalls.{openCall, feedCall, readCall}
+use Rattle.run.specs.RunCalls.{openCall, feedCall, readCall, marksCall}
 use Rattle.scale.specs.ScaleCall.{scaleCall}
 
 -- a call with what it leaves or gives back: a place, a lane and an element, a buffer, a run, or a buffer and the run
@@ -26,5 +26,6 @@ pub data OfBench : (X : Type 0) → Call X → Type 1 where
   openRun : (kind signs mode : ℕ) (c : List ℕ) → OfBench Run (openCall kind signs mode c)
   feedRun : (run : Run) (a b : List ℕ) → OfBench Run (feedCall run a b)
   readRun : (run : Run) (d : List ℕ) → OfBench (List ℕ × Run) (readCall run d)
+  readMarks : (run : Run) (out : List ℕ) → OfBench (List ℕ × Run) (marksCall run out)
   scale : (size side byteId threadId : ℕ) (metadata : List ℕ) (output : List ℤ)
       → OfBench (List ℤ) (scaleCall size side byteId threadId metadata output)

@@ -1,7 +1,6 @@
 -- What document 01 promises of runs, and demand 3 for blocks that are accepted. The blocks are fed by the definitions that feed's contract cites, into
 -- a newly opened run; every order is every permutation of the list. Assumes nothing.
 use mathlib.Core.Path.{_≡_, refl, sym, ap, ap₂, subst, _∙_}
-use mathlib.Core.Bool.{Bool, true, false}
 use mathlib.Core.Logic.{_⊎_, inl, inr}
 use mathlib.Core.List.{List, [], _∷_, List·Permᴰ}
 use Prim.Native.Nat.{ℕ, _+_, _*_, _^_, _<_, _≤_}
@@ -12,7 +11,6 @@ use lib.IntN.{ℤ, pos, _+ℤ_}
 use lib.Signed.{_<ℤ_}
 use lib.ListN.{length, take, drop}
 use lib.Seq.{take-at}
-use Rattle.laws.specs.Choice.{if_then_else_}
 use Rattle.laws.specs.Integers.{int32, clamp}
 use Rattle.laws.specs.Bits.{onesIn}
 use Rattle.laws.specs.Totals.{total, clampedEach, All, NoneNegative, NonePositive, Wraps}
@@ -21,7 +19,7 @@ use Rattle.laws.proofs.Totals.{wrappedBy, clampedBy, Counts, total-perm, total-
 use Rattle.kinds.specs.Kinds.{oneBit, integer}
 use Rattle.answers.specs.Refusals.{Answer, given, refusal, after}
 use Rattle.answers.proofs.Shows.{deny}
-use Rattle.answers.specs.Tests.{Says, holds}
+use Rattle.answers.specs.Tests.{Says}
 use Rattle.answers.proofs.Words.{says}
 use Rattle.kinds.proofs.Table.{not-one-bit}
 use Rattle.buffers.specs.Buffers.{wordsNeeded}
@@ -30,10 +28,11 @@ use Rattle.step_work.specs.Workers.{Ready}
 use Rattle.step_work.proofs.Matrices.{entry-lt}
 use Rattle.step.proofs.Promises.{rowsD, columnsD, same-added}
 use Rattle.run.specs.declared.Run.{Run}
-use Rattle.run.specs.Runs.{runOf, zeros, withUsed, usedOf, openedRun, fedRun}
+use Rattle.run.specs.Runs.{runOf, zeros, noMarks, withUsed, usedOf, openedRun, fedRun}
 use Rattle.run.specs.RunCalls.{badRun, openAnswer, feedAnswer}
-use Rattle.run.specs.Blocks.{Block, fedBy, fedAll, AllAccepted, kept, acceptedOf, contributions, sumAt}
-use Rattle.run.proofs.Laws.{open-accepted, sound-back}
+use Rattle.run.specs.Blocks.{Block, fedBy, fedAll, AllAccepted, kept, acceptedOf, contributions, sumAt, markAt}
+use Rattle.run.proofs.Laws.{Unstray, open-accepted, opened-unstray, unmarked, sound-back, wrapping}
+use Rattle.run.proofs.Marks.{J-few, mark-is, fedMark, mark-by}
 use Rattle.run.proofs.Demand.{fedCell, wraps-each, clamps-each, fed-at, fed-kept, accepted-order, added-perm, adds-length}
 
 -- a newly opened run of kind k, and a place of D
@@ -63,29 +62,41 @@ module _ (k signs mode : ℕ) (c : List ℕ) (accepted : openAnswer k signs mode
         → sumAt (fedAll (openedRun k signs mode c) xs) row column ≡ int32 (fedCell (limit k mode) from (adds xs))
     unfolding sumAt openedRun
     sum-is xs a =
-        let s = fed-kept k signs mode ok 0 (withUsed c zeros) xs a in
-        ap (λ (r : Run). int32 (entryIn (r .kind .0) 2 (usedOf (fedAll (runOf k signs mode 0 (withUsed c zeros)) xs)) row column)) (s .1)
-        ∙ ap int32 (fed-at k signs mode ok 0 (withUsed c zeros) xs a row column hr hc)
+        let s = fed-kept k signs mode ok 0 (withUsed c zeros) noMarks xs a in
+        ap (λ (r : Run). int32 (entryIn (r .kind .0) 2 (usedOf (fedAll (runOf k signs mode 0 (withUsed c zeros) noMarks) xs)) row column)) (s .2)
+        ∙ ap int32 (fed-at k signs mode ok 0 (withUsed c zeros) noMarks xs a row column hr hc)
         ∙ ap (λ (ws : List ℕ). int32 (fedCell (limit k mode) (entryIn k 2 ws row column) (adds xs))) used-start
 
     order : {xs ys : List Block} → List·Permᴰ xs ys → AllAccepted (openedRun k signs mode c) xs
         → AllAccepted (openedRun k signs mode c) ys
     unfolding openedRun
-    order d a = accepted-order k signs mode ok 0 (withUsed c zeros) (omega arith) d a
+    order d a = accepted-order k signs mode ok 0 (withUsed c zeros) noMarks (opened-unstray k mode) (omega arith) d a
+
+    -- the mark there: none at opening, and then what the blocks set
+    opened-used : usedOf (openedRun k signs mode c) ≡ c
+    unfolding openedRun usedOf
+    opened-used = used-start
+
+    pub opened-sum : sumAt (openedRun k signs mode c) row column ≡ int32 from
+    unfolding sumAt openedRun
+    opened-sum = ap (λ (ws : List ℕ). int32 (entryIn k 2 ws row column)) opened-used
+
+    pub none-marked : markAt (openedRun k signs mode c) row column ≡ 0
+    unfolding openedRun
+    none-marked = mark-is (openedRun k signs mode c) ok row column hr hc ∙ unmarked _ (J-few (openedRun k signs mode c) ok row column hr hc)
+
+    pub mark-from : (xs : List Block) → AllAccepted (openedRun k signs mode c) xs
+        → markAt (fedAll (openedRun k signs mode c) xs) row column ≡ fedMark (limit k mode) from 0 (adds xs)
+    unfolding openedRun
+    mark-from xs a =
+        mark-by (openedRun k signs mode c) xs a row column hr hc
+        ∙ ap₂ (λ (ws : List ℕ) (m : ℕ). fedMark (limit k mode) (entryIn k 2 ws row column) m (adds xs)) opened-used none-marked
 
     -- 'With wrapping, and always in the one-bit form, each sum at the end is the signed 32-bit number that differs from start plus all the exact
     -- products, or bit counts, by a multiple of 2^32, in every order of the blocks.'
-    wrapping : (mode ≡ 0) ⊎ Says (oneBit k) → limit k mode ≡ 0
-    wrapping (inl e) = either (holds (oneBit k))
-      where
-        either : (t : Bool) → (if t then 0 else mode) ≡ 0
-        either true = refl
-        either false = e
-    wrapping (inr e) = simp (says (oneBit k) .1 e)
-
     word-at : (mode ≡ 0) ⊎ Says (oneBit k) → (xs : List Block) → AllAccepted (openedRun k signs mode c) xs
         → sumAt (fedAll (openedRun k signs mode c) xs) row column ≡ int32 (wrappedBy from (adds xs))
-    word-at w xs a = sum-is xs a ∙ ap (λ (m : ℕ). int32 (fedCell m from (adds xs))) (wrapping w) ∙ ap int32 (wraps-each from (adds xs))
+    word-at w xs a = sum-is xs a ∙ ap (λ (m : ℕ). int32 (fedCell m from (adds xs))) (wrapping k mode w) ∙ ap int32 (wraps-each from (adds xs))
 
     pub wrapped-total : (mode ≡ 0) ⊎ Says (oneBit k) → (xs ys : List Block) → AllAccepted (openedRun k signs mode c) xs
         → List·Permᴰ xs ys
@@ -147,19 +158,19 @@ module _ (k signs mode : ℕ) (c : List ℕ) (accepted : openAnswer k signs mode
   pub counted : (xs : List Block) → AllAccepted (openedRun k signs mode c) xs
       → fedAll (openedRun k signs mode c) xs .blocks ≡ length xs
   unfolding openedRun
-  counted xs a = let s = fed-kept k signs mode ok 0 (withUsed c zeros) xs a in ap (λ (r : Run). r .blocks) (s .1) ∙ omega arith
+  counted xs a = let s = fed-kept k signs mode ok 0 (withUsed c zeros) noMarks xs a in ap (λ (r : Run). r .blocks) (s .2) ∙ omega arith
 
   -- The 4,097th is refused 9 and changes nothing.
-  full-at : (n : ℕ) (ws : List ℕ) (a b : ℕ) → n ≡ 4096 → feedAnswer (runOf k signs mode n ws) a b ≡ refusal 9 0
+  full-at : (n : ℕ) (ws ms : List ℕ) → Unstray k mode ms → (a b : ℕ) → n ≡ 4096 → feedAnswer (runOf k signs mode n ws ms) a b ≡ refusal 9 0
   unfolding feedAnswer
-  full-at n ws a b e = rw (deny (badRun (runOf k signs mode n ws)) (sound-back (runOf k signs mode n ws) ok (omega arith)), le-leb 4096 n (omega arith)) refl
+  full-at n ws ms u a b e = rw (deny (badRun (runOf k signs mode n ws ms)) (sound-back (runOf k signs mode n ws ms) ok (omega arith) u), le-leb 4096 n (omega arith)) refl
 
   pub no-more : (xs : List Block) → AllAccepted (openedRun k signs mode c) xs → length xs ≡ 4096
       → (a b : ℕ) → feedAnswer (fedAll (openedRun k signs mode c) xs) a b ≡ refusal 9 0
   unfolding openedRun
   no-more xs h n a b =
-      let s = fed-kept k signs mode ok 0 (withUsed c zeros) xs h in
-      ap (λ (r : Run). feedAnswer r a b) (s .1) ∙ full-at (0 + length xs) (s .0) a b (omega arith)
+      let s = fed-kept k signs mode ok 0 (withUsed c zeros) noMarks xs h in
+      ap (λ (r : Run). feedAnswer r a b) (s .2) ∙ full-at (0 + length xs) (s .0) (s .1) (s .3 (opened-unstray k mode)) a b (omega arith)
 
 -- 'A refused feed isn't counted', and changes nothing: whatever was fed, the run is that of the accepted blocks alone,
 fed-kept-one : (run : Run) (x : Block) (q : Answer (Unit {0})) → feedAnswer run (length (x .a)) (length (x .b)) ≡ q
@@ -217,3 +228,17 @@ own-row k signs mode c c′ o o′ row hr same xs ys a b h column hc =
     sum-is k signs mode c o row column hr hc xs a
     ∙ ap₂ (λ (w : ℕ) (zs : List ℤ). int32 (fedCell (limit k mode) w zs)) (same column hc) (same-adds k signs mode row column hc xs ys h)
     ∙ sym (sum-is k signs mode c′ o′ row column hr hc ys b)
+
+-- and their marks agree there too.
+pub own-marks : (k signs mode : ℕ) (c c′ : List ℕ) → openAnswer k signs mode (length c) ≡ given tt
+    → openAnswer k signs mode (length c′) ≡ given tt
+    → (row : ℕ) → row < rowsD k
+    → ((column : ℕ) → column < columnsD k → entryIn k 2 c row column ≡ entryIn k 2 c′ row column)
+    → (xs ys : List Block) → AllAccepted (openedRun k signs mode c) xs → AllAccepted (openedRun k signs mode c′) ys
+    → Alike k row xs ys
+    → (column : ℕ) → column < columnsD k
+    → markAt (fedAll (openedRun k signs mode c) xs) row column ≡ markAt (fedAll (openedRun k signs mode c′) ys) row column
+own-marks k signs mode c c′ o o′ row hr same xs ys a b h column hc =
+    mark-from k signs mode c o row column hr hc xs a
+    ∙ ap₂ (λ (w : ℕ) (zs : List ℤ). fedMark (limit k mode) w 0 zs) (same column hc) (same-adds k signs mode row column hc xs ys h)
+    ∙ sym (mark-from k signs mode c′ o′ row column hr hc ys b)

@@ -1,15 +1,17 @@
--- Demand 3: blocks fed one after the other, and what they add at a place. Assumes nothing.
+-- Demand 3: blocks fed one after the other, and what they add and mark at a place. Assumes nothing.
 use Prim.Native.Nat.{ℕ}
 use mathlib.Core.Path.{_≡_}
-use mathlib.Core.List.{List, [], _∷_}
-use lib.IntN.{ℤ}
+use mathlib.Core.List.{List, [], _∷_, _++_}
+use lib.IntN.{ℤ, _+ℤ_}
 use lib.ListN.{length}
-use Rattle.laws.specs.Integers.{int32}
+use Rattle.laws.specs.Integers.{int32, outside}
+use Rattle.laws.specs.Lists.{tab}
 use Rattle.answers.specs.Refusals.{Answer, given, refusal, after}
 use Rattle.buffers.specs.Buffers.{wordsNeeded}
+use Rattle.step_limit.specs.Marks.{markIn}
 use Rattle.step_work.specs.Step.{entryIn, added}
 use Rattle.run.specs.declared.Run.{Run}
-use Rattle.run.specs.Runs.{kindIn, usedOf, fedRun}
+use Rattle.run.specs.Runs.{kindIn, signsIn, modeIn, usedOf, fedRun}
 use Rattle.run.specs.RunCalls.{feedAnswer}
 
 -- a block: an A and a B buffer
@@ -56,3 +58,16 @@ contributions kind signs mode row column (x ∷ xs) = added kind signs mode (x .
 -- the sum that a run holds at a place of D, as a signed number
 unfoldable pub sumAt : Run → (row column : ℕ) → ℤ
 sumAt run row column = int32 (entryIn (kindIn run) 2 (usedOf run) row column)
+
+-- document 02, K12: its mark, which is that of the same word
+unfoldable pub markAt : Run → (row column : ℕ) → ℕ
+markAt run row column = entryIn (kindIn run) 2 (tab (wordsNeeded (kindIn run) 2) (markIn (run .marks))) row column
+
+-- the exact result there of a block that is fed: the sum plus what the block adds
+unfoldable pub exactAt : Run → Block → (row column : ℕ) → ℤ
+exactAt run x row column = sumAt run row column +ℤ added (kindIn run) (signsIn run) (modeIn run) (x .a) (x .b) row column
+
+-- among the blocks is one at which it lay outside 32 bits
+abbrev pub CutAmong : Run → List Block → (row column : ℕ) → Type 0
+CutAmong run xs row column =
+    (before : List Block) × (x : Block) × (behind : List Block) × (xs ≡ before ++ (x ∷ behind)) × (outside (exactAt (fedAll run before) x row column) ≡ 1)

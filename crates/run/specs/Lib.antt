@@ -1,3 +1,4 @@
 pub mod Runs
 pub mod RunCalls
 pub mod Blocks
+pub mod Workers

@@ -1,16 +1,18 @@
-// Runs of steps: opened from a C buffer, fed blocks of A and B, read into a D buffer. A run goes in and comes back by value.
+// Runs of steps: opened from a C buffer, fed blocks of A and B, read into a D buffer, and marked where a sum was cut off. A run goes in and comes back
+// by value.
 ghost use mathlib.Core.Path.{_≡_};
-ghost use Prim.Native.Nat.{_<_};
+ghost use Prim.Native.Nat.{_*_, _<_, _≤_};
 ghost use lib.ListN.{length};
 ghost use mathlib.Core.List.{[], _∷_};
 ghost use Rattle.answers.specs.Tests.{differs};
 ghost use Rattle.answers.specs.Calls.{_when_, _at_when_};
-ghost use Rattle.answers.specs.Contracts.{Meets, Judges};
-ghost use Rattle.kinds.specs.Kinds.{entryOf};
+ghost use Rattle.answers.specs.Contracts.{Meets, Judges, Tells};
+ghost use Rattle.kinds.specs.Kinds.{entryOf, Arithmetic};
 ghost use Rattle.buffers.specs.Buffers.{wordsNeeded};
 ghost use Rattle.step_work.specs.Workers.{Ready};
 ghost use Rattle.run.specs.Runs.{openedRun, zeroRun, fedRun};
-ghost use Rattle.run.specs.RunCalls.{maxBlocks, badRun, openRefusals, feedRefusals, readRefusals, openCall, feedCall, readCall};
+ghost use Rattle.run.specs.RunCalls.{maxBlocks, badRun, openRefusals, feedRefusals, readRefusals, marksRefusals, openCall, feedCall, readCall, marksCall};
+ghost use Rattle.run.specs.Workers.{markable, markFrom};
 use answers::Refusal;
 use answers::Verdict;
 use buffers::Lengths;
@@ -26,6 +28,7 @@ pub struct Run {
     pub mode: Mode,
     pub blocks: u32,
     pub sums: [u32; 128],
+    pub marks: [u32; 4],
 }
 
 // A run handed back with the answer of the call.
@@ -51,6 +54,7 @@ impl Run {
             mode,
             blocks: 0,
             sums,
+            marks: [0; 4],
         }
     }
 
@@ -93,10 +97,39 @@ impl Run {
                     mode: Mode(0),
                     blocks: 0,
                     sums: [0; 128],
+                    marks: [0; 4],
                 },
                 verdict,
             },
         }
+    }
+
+    // The words of marks in which one may be set: those of the sums, in a run that can clamp.
+    fn markable(kind: Kind, line: Entry, mode: Mode) -> usize
+        requires { ⌜ Arithmetic (kind .0) × (line ≡ entryOf (kind .0)) ⌝ }
+        ensures { λ r. ⌜ (r ≤ 4) × (r * 32 ≡ markable (kind .0) (mode .0)) ⌝ }
+    {
+        let m = mode.0;
+        if m == 0 {
+            return 0;
+        }
+        if line.element == Entry::ONE_BIT {
+            return 0;
+        }
+        Lengths::of(kind, line).c / 32
+    }
+
+    // Whether a mark is set in that word or behind it.
+    fn marked_from(marks: &[u32], from: usize) -> bool
+        requires { ⌜ (from ≤ 4) × (length (now marks) ≡ 4) ⌝ }
+        ensures { λ r. ⌜ Tells (markFrom (now (marks .entry)) (from * 32)) r ⌝ }
+    {
+        for w in from..4 {
+            if marks[w] != 0 {
+                return true;
+            }
+        }
+        false
     }
 
     // Refusal 10.
@@ -106,10 +139,14 @@ impl Run {
         let kind = self.kind;
         let signs = self.signs;
         let mode = self.mode;
-        let Selected::As(_) = step::select(kind, signs, mode) else {
+        let marks = self.marks;
+        let Selected::As(line) = step::select(kind, signs, mode) else {
             return Verdict::Refused(Refusal::BadRun);
         };
         if Run::MAX_BLOCKS < self.blocks {
+            return Verdict::Refused(Refusal::BadRun);
+        }
+        if Run::marked_from(&marks, Run::markable(kind, line, mode)) {
             return Verdict::Refused(Refusal::BadRun);
         }
         Verdict::Accepted
@@ -153,15 +190,27 @@ impl Run {
         let sums = self.sums;
         let c = sums;
         let mut d = sums;
+        let mut marks = self.marks;
         let line = Entry::of(kind);
         let n = Lengths::of(kind, line).c;
-        step_work::work(kind, line, signs, mode, a, b, &c[..n], &mut d[..n]);
+        step_work::work(
+            kind,
+            line,
+            signs,
+            mode,
+            a,
+            b,
+            &c[..n],
+            &mut d[..n],
+            &mut marks,
+        );
         Run {
             kind,
             signs,
             mode,
             blocks,
             sums: d,
+            marks,
         }
     }
 
@@ -203,6 +252,34 @@ impl Run {
         };
         let sums = self.sums;
         buffers::copy(&sums[..n], d);
+        Handed { run: self, verdict }
+    }
+
+    // Refusals 10 and 5 of reading the marks.
+    fn judge_marks(self, n: usize) -> Verdict
+        ensures { λ r. ⌜ Judges (marksRefusals self n) r ⌝ }
+    {
+        let verdict = self.judge();
+        let Verdict::Accepted = verdict else {
+            return verdict;
+        };
+        if n != 4 {
+            return Verdict::Refused(Refusal::WrongLength(0));
+        }
+        verdict
+    }
+
+    // The four words of marks; the run is as it was.
+    pub fn marks(self, out: &mut [u32]) -> Handed
+        ensures { λ r. ⌜ Meets (marksCall self (now (out .entry))) (now (out .entry), self) (r .verdict)
+            (now (out .exit), r .run) ⌝ }
+    {
+        let verdict = self.judge_marks(out.len());
+        let Verdict::Accepted = verdict else {
+            return Handed { run: self, verdict };
+        };
+        let marks = self.marks;
+        buffers::copy(&marks, out);
         Handed { run: self, verdict }
     }
 }

@@ -89,7 +89,9 @@ fn step_in(
     let verdict = lengths(kind, line, a.len(), b.len(), c.len(), d.len());
     match verdict {
         Verdict::Accepted => {
-            step_work::work(kind, line, signs, mode, a, b, c, d);
+            // A step has no use for the marks.
+            let mut marks: [u32; 4] = [0; 4];
+            step_work::work(kind, line, signs, mode, a, b, c, d, &mut marks);
             verdict
         }
         Verdict::Refused(_) => verdict,

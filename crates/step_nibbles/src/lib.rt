@@ -8,13 +8,15 @@ ghost use lib.ListN.{length, getD};
 ghost use Rattle.laws.specs.Fields.{joined};
 ghost use Rattle.kinds.specs.Kinds.{lanes};
 ghost use Rattle.kinds.specs.Rule.{minors};
-ghost use Rattle.step_products.specs.Sums.{Dots, straight, Digits, Digitised, Summable, digitsWord, digitsWords};
+ghost use Rattle.step_limit.specs.Marks.{withMarks};
+ghost use Rattle.step_products.specs.Sums.{Dots, straight, Digits, Digitised, Summable, digitsWord, digitsMark, digitsWords, digitsMarks};
 ghost use Rattle.step_nibbles.specs.Planes.{Planes, Small, Nibbled};
 use kinds::Element;
 use kinds::Lane;
 use kinds::Layout;
 use kinds::Layouts;
 use kinds::Mode;
+use step_limit::Cell;
 use step_products::Dot;
 use step_products::Offsets;
 use step_products::Split;
@@ -127,7 +129,7 @@ fn element_of(halves: usize, k: usize) -> Element
     Element((kinds::rule::remainder(halves, k / 2) * 2 + k % 2) as u32)
 }
 
-// Word k of D.
+// Word k of D, and its mark.
 fn cell(
     l: Layouts,
     mode: Mode,
@@ -137,10 +139,12 @@ fn cell(
     p: &[u8; 2048],
     c: &[u32],
     k: usize,
-) -> u32
+) -> Cell
     requires { ⌜ Summable l (mode .0) h (now c) (now c) × Nibbled l h (now x) (now y) × Planes (now y) (now p) × (k < length (now c)) ⌝ }
-    ensures { λ r. ⌜ r ≡ digitsWord (mode .0) (minors (l .a)) (h .a) (h .b) (l .c .words) (l .c .halves) (now (x .entry))
-        (now (y .entry)) (now (c .entry)) (k / l .c .words) (k % l .c .words) ⌝ }
+    ensures word { λ r. ⌜ r .word ≡ digitsWord (mode .0) (minors (l .a)) (h .a) (h .b) (l .c .words) (l .c .halves)
+        (now (x .entry)) (now (y .entry)) (now (c .entry)) (k / l .c .words) (k % l .c .words) ⌝ }
+    ensures mark { λ r. ⌜ r .mark ≡ digitsMark (mode .0) (minors (l .a)) (h .a) (h .b) (l .c .words) (l .c .halves)
+        (now (x .entry)) (now (y .entry)) (now (c .entry)) (k / l .c .words) (k % l .c .words) ⌝ }
 {
     let spans = l.a.spans;
     let halves = l.c.halves;
@@ -156,7 +160,7 @@ fn cell(
     step_limit::limited(mode, c[k], s.plus, s.minus)
 }
 
-// Every word of D.
+// Every word of D, and their marks.
 pub fn cells(
     l: Layouts,
     mode: Mode,
@@ -165,13 +169,18 @@ pub fn cells(
     y: &[u8; 1024],
     c: &[u32],
     d: &mut [u32],
+    marks: &mut [u32],
 )
-    requires { ⌜ Summable l (mode .0) h (now c) (now d) × Nibbled l h (now x) (now y) ⌝ }
-    ensures { λ _. ⌜ now (d .exit) ≡ digitsWords l (mode .0) h (now (x .entry)) (now (y .entry)) (now (c .entry)) ⌝ }
+    requires { ⌜ Summable l (mode .0) h (now c) (now d) × Nibbled l h (now x) (now y) × (length (now marks) ≡ 4) ⌝ }
+    ensures words { λ _. ⌜ now (d .exit) ≡ digitsWords l (mode .0) h (now (x .entry)) (now (y .entry)) (now (c .entry)) ⌝ }
+    ensures marks { λ _. ⌜ now (marks .exit) ≡ withMarks 0 (lanes * l .c .words)
+        (digitsMarks l (mode .0) h (now (x .entry)) (now (y .entry)) (now (c .entry))) (now (marks .entry)) ⌝ }
 {
     let mut p: [u8; 2048] = [0; 2048];
     planes::put(y, &mut p);
     for k in 0..d.len() {
-        d[k] = cell(l, mode, h, x, y, &p, c, k);
+        let one = cell(l, mode, h, x, y, &p, c, k);
+        d[k] = one.word;
+        step_limit::keep(marks, k, one.mark);
     }
 }

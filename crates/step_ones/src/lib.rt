@@ -124,7 +124,7 @@ fn put_cells(halves: usize, s: &[u64; 128], c: &[u32], d: &mut [u32])
 {
     for k in 0..Lane::COUNT * (2 * halves) {
         let at = place_of(halves, k);
-        d[k] = step_limit::limited(Mode(0), c[k], s[at] as u32, 0);
+        d[k] = step_limit::limited(Mode(0), c[k], s[at] as u32, 0).word;
     }
 }
 

@@ -17,7 +17,7 @@ use Rattle.kinds.specs.Workers.{Laid}
 use Rattle.kinds.specs.declared.Layout.{Layout}
 use Rattle.kinds.specs.declared.Layouts.{Layouts}
 use Rattle.buffers.specs.Buffers.{elementAt}
-use Rattle.step_limit.specs.Limits.{cellOf}
+use Rattle.step_limit.specs.Limits.{cellOf, markOf}
 use Rattle.step_products.specs.declared.Dot.{Dot}
 use Rattle.step_products.specs.declared.Offsets.{Offsets}
 
@@ -46,14 +46,26 @@ digitAt bits each side halves offset ws x y = raised (2 ^ bits) offset (elementA
 unfoldable pub offsetDot : (ha hb n : ℕ) → (a b : ℕ → ℕ) → ℤ
 offsetDot ha hb n a b = sumZ n (λ k. subℕ (a k) ha *ℤ subℕ (b k) hb)
 
--- the word of D that lane and element i hold, from the digits of A by rows and of B by columns
+-- the sum at the place of lane and element i of D, from the digits of A by rows and of B by columns
+abbrev pub digitsDot : (n ha hb halves : ℕ) → (x y : List ℕ) → (lane i : ℕ) → ℤ
+digitsDot n ha hb halves x y lane i =
+    offsetDot ha hb n (λ k. getD x (major 2 halves lane i * n + k) 0) (λ k. getD y (minor 2 halves lane i * n + k) 0)
+
+-- the word of D that they hold
 unfoldable pub digitsWord : (mode n ha hb each halves : ℕ) → (x y c : List ℕ) → (lane i : ℕ) → ℕ
 digitsWord mode n ha hb each halves x y c lane i =
-    cellOf mode (getD c (lane * each + i) 0)
-    (offsetDot ha hb n (λ k. getD x (major 2 halves lane i * n + k) 0) (λ k. getD y (minor 2 halves lane i * n + k) 0))
+    cellOf mode (getD c (lane * each + i) 0) (digitsDot n ha hb halves x y lane i)
+
+-- and its mark
+unfoldable pub digitsMark : (mode n ha hb each halves : ℕ) → (x y c : List ℕ) → (lane i : ℕ) → ℕ
+digitsMark mode n ha hb each halves x y c lane i =
+    markOf mode (getD c (lane * each + i) 0) (digitsDot n ha hb halves x y lane i)
 
 unfoldable pub digitsWords : Layouts → (mode : ℕ) → Offsets → (x y c : List ℕ) → List ℕ
 digitsWords l mode h x y c = tab (lanes * l .c .words) (blocks (l .c .words) (digitsWord mode (minors (l .a)) (h .a) (h .b) (l .c .words) (l .c .halves) x y c))
+
+unfoldable pub digitsMarks : Layouts → (mode : ℕ) → Offsets → (x y c : List ℕ) → ℕ → ℕ
+digitsMarks l mode h x y c = blocks (l .c .words) (digitsMark mode (minors (l .a)) (h .a) (h .b) (l .c .words) (l .c .halves) x y c)
 
 -- the layout whose rows are the major numbers
 abbrev pub straight : Layout → Layout

@@ -9,7 +9,8 @@ ghost use Rattle.laws.specs.Fields.{field, joined};
 ghost use Rattle.laws.specs.Toward.{stores, Brings, Below, At};
 ghost use Rattle.kinds.specs.Kinds.{lanes};
 ghost use Rattle.kinds.specs.Rule.{shape, laneOf, elementOf};
-ghost use Rattle.step_products.specs.Sums.{Dots, straight, masked, Digits, Digitised, Summable, digitsWords};
+ghost use Rattle.step_limit.specs.Marks.{withMarks};
+ghost use Rattle.step_products.specs.Sums.{Dots, straight, masked, Digits, Digitised, Summable, digitsWords, digitsMarks};
 use kinds::Element;
 use kinds::Lane;
 use kinds::Layout;
@@ -152,7 +153,7 @@ pub fn digits(words: &[u32], out: &mut [u8; 1024], side: Layout, offset: u64)
     put_digits(words, out, 8, side.spans, side.halves, mask);
 }
 
-// The words of D that a lane holds.
+// The words of D that a lane holds, and their marks.
 fn lane_cells(
     l: Layouts,
     mode: Mode,
@@ -161,11 +162,14 @@ fn lane_cells(
     y: &[u8; 1024],
     c: &[u32],
     d: &mut [u32],
+    marks: &mut [u32],
     lane: Lane,
 )
-    requires { ⌜ Summable l (mode .0) h (now c) (now d) × (lane .0 < lanes) ⌝ }
-    ensures { λ _. ⌜ Brings (digitsWords l (mode .0) h (now (x .entry)) (now (y .entry)) (now (c .entry)))
+    requires { ⌜ Summable l (mode .0) h (now c) (now d) × (lane .0 < lanes) × (length (now marks) ≡ 4) ⌝ }
+    ensures words { λ _. ⌜ Brings (digitsWords l (mode .0) h (now (x .entry)) (now (y .entry)) (now (c .entry)))
         (Below (l .c .words) (λ i. At (lane .0 * l .c .words + i))) (now (d .entry)) (now (d .exit)) ⌝ }
+    ensures marks { λ _. ⌜ now (marks .exit) ≡ withMarks (lane .0 * l .c .words) (l .c .words)
+        (digitsMarks l (mode .0) h (now (x .entry)) (now (y .entry)) (now (c .entry))) (now (marks .entry)) ⌝ }
 {
     let f = l.a;
     let g = l.c;
@@ -176,11 +180,13 @@ fn lane_cells(
         let column = kinds::rule::along(2, g.halves, lane, element);
         let s = exact(dot_of(x, y, row * n, column * n, n), n, h);
         let k = lane.0 as usize * g.words + i;
-        d[k] = step_limit::limited(mode, c[k], s.plus, s.minus);
+        let cell = step_limit::limited(mode, c[k], s.plus, s.minus);
+        d[k] = cell.word;
+        step_limit::keep(marks, k, cell.mark);
     }
 }
 
-// Every word of D, lane by lane.
+// Every word of D, lane by lane, and their marks.
 pub fn cells(
     l: Layouts,
     mode: Mode,
@@ -189,11 +195,14 @@ pub fn cells(
     y: &[u8; 1024],
     c: &[u32],
     d: &mut [u32],
+    marks: &mut [u32],
 )
-    requires { ⌜ Summable l (mode .0) h (now c) (now d) ⌝ }
-    ensures { λ _. ⌜ now (d .exit) ≡ digitsWords l (mode .0) h (now (x .entry)) (now (y .entry)) (now (c .entry)) ⌝ }
+    requires { ⌜ Summable l (mode .0) h (now c) (now d) × (length (now marks) ≡ 4) ⌝ }
+    ensures words { λ _. ⌜ now (d .exit) ≡ digitsWords l (mode .0) h (now (x .entry)) (now (y .entry)) (now (c .entry)) ⌝ }
+    ensures marks { λ _. ⌜ now (marks .exit) ≡ withMarks 0 (lanes * l .c .words)
+        (digitsMarks l (mode .0) h (now (x .entry)) (now (y .entry)) (now (c .entry))) (now (marks .entry)) ⌝ }
 {
     for lane in 0..Lane::COUNT {
-        lane_cells(l, mode, h, x, y, c, d, Lane(lane as u32));
+        lane_cells(l, mode, h, x, y, c, d, marks, Lane(lane as u32));
     }
 }

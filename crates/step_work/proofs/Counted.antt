@@ -19,7 +19,7 @@ use Rattle.kinds.specs.declared.Entry.{Entry}
 use Rattle.kinds.proofs.Table.{among, among-≡, among-≤}
 use Rattle.kinds.proofs.Digits.{major-lt, minor-lt}
 use Rattle.buffers.specs.Buffers.{elementAt}
-use Rattle.step_work.specs.Step.{entryIn, depth, combinedBits, added, resultAt, stepped}
+use Rattle.step_work.specs.Step.{entryIn, depth, combinedBits, added, limit, resultAt, stepped}
 use Rattle.step_work.specs.Workers.{Sized}
 use Rattle.step_limit.specs.Limits.{cellOf}
 use Rattle.step_ones.specs.Combined.{bitIn, bitOf, bitsOf, onesWord, onesWords, linesOf, Reaches}
@@ -64,6 +64,10 @@ module _ (k : ℕ) (ok : Arithmetic k) (bit : Says (oneBit k)) where
 
   pub depth-le : depth k ≤ 256
   depth-le = omega (arith, deep, spans-le, halves-le k ok)
+
+  -- the one-bit form wraps in both modes
+  pub wraps-always : (mode : ℕ) → limit k mode ≡ 0
+  wraps-always mode = simp (says (oneBit k) .1 bit)
 
   -- C plus the ones
   pub result-is : (mode : ℕ) (a b c : List ℕ) (row column : ℕ)

@@ -1,11 +1,13 @@
 -- The entries of A, B and C by the words that hold them, and the words of D by the results at their places. Assumes nothing.
-use mathlib.Core.Path.{_≡_, sym, ap, ap₂, subst, _∙_}
+use mathlib.Core.Path.{_≡_, refl, sym, ap, ap₂, subst, _∙_}
+use mathlib.Core.Bool.{Bool, true, false}
 use mathlib.Core.List.{List}
 use Prim.Native.Nat.{ℕ, _+_, _*_, _/_, _%_, _^_, _<_, _≤_}
 use native.Mathlib.Nat.{div-lt-iff-lt-mul, mod-lt}
 use native.Mathlib.Omega.{arith}
 use lib.Arith.{digits-lt, digits-div, digits-mod}
-use lib.Dec.{T, leb, eqb}
+use borrow.Author.Tests.{ltb-true, ltb-false}
+use lib.Dec.{T, ltb, leb, eqb}
 use lib.ListN.{length, getD}
 use Rattle.laws.specs.Fields.{field, joined}
 use Rattle.laws.specs.Lists.{tab, blocks}
@@ -13,20 +15,22 @@ use Rattle.laws.proofs.Every.{all}
 use Rattle.laws.proofs.Fields.{field-joined}
 use Rattle.laws.proofs.Lists.{length-tab, getD-tab, tab-ext}
 use Rattle.laws.proofs.Integers.{word-lt}
-use Rattle.kinds.specs.Kinds.{lanes, entryOf, roleOf, sumBits, rows, columns, kinds, oneBitElement, int8Element, int4Element, integer, Legal, Arithmetic}
+use Rattle.kinds.specs.Kinds.{lanes, entryOf, roleOf, sumBits, rows, columns, rowsAt, columnsAt, kinds, oneBitElement, int8Element, int4Element, integer, Legal, Arithmetic}
 use Rattle.kinds.specs.Rule.{sideOf, elementsOf, rowsOf, columnsOf, laneOf, elementOf, major, minor, placeIn, holderOf}
 use Rattle.kinds.specs.Workers.{Laid}
 use Rattle.answers.specs.Tests.{Says}
 use Rattle.kinds.specs.declared.Entry.{Entry}
 use Rattle.kinds.specs.declared.Layout.{Layout}
 use Rattle.kinds.proofs.Table.{among, among-≡, among-≤, layoutAt, sane, rows-are, columns-are}
-use Rattle.buffers.specs.Buffers.{index, elementAt, entryAt, unpackedOf, wordAt, packed}
+use Rattle.buffers.specs.Buffers.{index, elementAt, entryAt, unpackedOf, wordAt, packed, wordsNeeded}
 use Rattle.buffers.specs.Buffers.{Fitting}
 use Rattle.buffers.proofs.Elements.{element-whole, element-lt}
 use Rattle.buffers.proofs.Places.{place-in}
 use Rattle.buffers.proofs.Round as round
-use Rattle.step_work.specs.Step.{entryIn, depth, resultAt, results, stepped}
-use Rattle.step_limit.specs.Limits.{cellOf}
+use Rattle.step_work.specs.Step.{entryIn, depth, limit, resultAt, wordsD, stepped, cutAt, cuts}
+use Rattle.step_limit.specs.Limits.{cellOf, markOf}
+use Rattle.step_limit.proofs.Cells.{mark-le}
+use Rattle.step_limit.proofs.Marks.{getD-past}
 
 -- an entry of a buffer's matrix is its holder's element
 pub entry-is : (k r : ℕ) → Legal k r → (ws : List ℕ) (row column : ℕ) → row < rowsOf (layoutAt k r) → column < columnsOf (layoutAt k r)
@@ -141,56 +145,131 @@ module _ (k : ℕ) (ok : Arithmetic k) where
         ∙ ap (λ (b : ℕ). elementAt b (e .c) ws lane i) sum-bits
         ∙ element-whole (e .c) ws lane (λ k _. fit (lane * e .c + k)) i hi
 
-  -- the words of D are the results at their places
-  module _ (signs mode : ℕ) (a b c : List ℕ) where
-    abbrev at : ℕ → ℕ → ℕ
-    at = resultAt k signs mode a b c
+  -- the word of D in which a place stands
+  abbrev pub wordOf : (row column : ℕ) → ℕ
+  wordOf row column = holderOf f (row, column) .0 * e .c + holderOf f (row, column) .1
 
-    result-lt : (row column : ℕ) → at row column < 2 ^ 32
-    unfolding resultAt cellOf
-    result-lt row column = word-lt _
+  module _ (row column : ℕ) (hr : row < rowsOf f) (hc : column < columnsOf f) where
+    element-in : holderOf f (row, column) .1 < e .c
+    element-in = subst (λ (n : ℕ). holderOf f (row, column) .1 < n) elements-words (round.element-in f laid row column hr hc)
 
-    results-are : results k signs mode a b c ≡ tab (rowsOf f * columnsOf f) (blocks (columnsOf f) at)
-    unfolding results
-    results-are = ap₂ (λ (m n : ℕ). tab (m * n) (blocks n at)) (rows-are k 2 (legal 2 (omega arith))) (columns-are k 2 (legal 2 (omega arith)))
+    pub word-in : wordOf row column < wordsNeeded k 2
+    word-in = digits-lt (round.lane-in f laid row column hr hc) element-in
 
-    result-at : (lane i : ℕ) → lane < lanes → i < elementsOf f → getD (results k signs mode a b c) (index (columnsOf f) (placeIn f lane i)) 0 ≡ at (major 2 (e .m / 8) lane i) (minor 2 (e .m / 8) lane i)
-    result-at lane i hl hi =
-        ap (λ (xs : List ℕ). getD xs (index (columnsOf f) (placeIn f lane i)) 0) results-are
+    pub entry-word : (ws : List ℕ) → ((x : ℕ) → getD ws x 0 < 2 ^ 32) → entryIn k 2 ws row column ≡ getD ws (wordOf row column) 0
+    entry-word ws fit =
+        let lane = holderOf f (row, column) .0 in
+        let i = holderOf f (row, column) .1 in
+        entry-is k 2 (legal 2 (omega arith)) ws row column hr hc
+        ∙ ap (λ (b : ℕ). elementAt b (e .c) ws lane i) sum-bits
+        ∙ element-whole (e .c) ws lane (λ k _. fit (lane * e .c + k)) i element-in
+
+  -- the words of a matrix of D: each is the entry at its place, and read as a matrix they have the entries
+  module _ (at : ℕ → ℕ → ℕ) (at-lt : (row column : ℕ) → at row column < 2 ^ 32) where
+    abbrev matrix : List ℕ
+    matrix = tab (rowsAt k 2 * columnsAt k 2) (blocks (columnsAt k 2) at)
+
+    matrix-is : matrix ≡ tab (rowsOf f * columnsOf f) (blocks (columnsOf f) at)
+    matrix-is = ap₂ (λ (m n : ℕ). tab (m * n) (blocks n at)) (rows-are k 2 (legal 2 (omega arith))) (columns-are k 2 (legal 2 (omega arith)))
+
+    matrix-at : (lane i : ℕ) → lane < lanes → i < elementsOf f → getD matrix (index (columnsOf f) (placeIn f lane i)) 0 ≡ at (major 2 (e .m / 8) lane i) (minor 2 (e .m / 8) lane i)
+    matrix-at lane i hl hi =
+        ap (λ (xs : List ℕ). getD xs (index (columnsOf f) (placeIn f lane i)) 0) matrix-is
         ∙ getD-tab (rowsOf f * columnsOf f) (blocks (columnsOf f) at) (index (columnsOf f) (placeIn f lane i)) 0 (place-in f laid lane i hl hi)
         ∙ ap₂ at (digits-div (placeIn f lane i .0) (round.column-in f laid lane i hl hi)) (digits-mod (placeIn f lane i .0) (round.column-in f laid lane i hl hi))
 
-    results-length : length (results k signs mode a b c) ≡ rowsOf f * columnsOf f
-    results-length = ap length results-are ∙ length-tab (rowsOf f * columnsOf f) (blocks (columnsOf f) at)
+    matrix-length : length matrix ≡ rowsOf f * columnsOf f
+    matrix-length = ap length matrix-is ∙ length-tab (rowsOf f * columnsOf f) (blocks (columnsOf f) at)
 
-    results-fit : Fitting (f .bits) (results k signs mode a b c)
-    results-fit x h =
-        let e : getD (results k signs mode a b c) x 0 ≡ at (x / columnsOf f) (x % columnsOf f)
-        = ap (λ (xs : List ℕ). getD xs x 0) results-are ∙ getD-tab (rowsOf f * columnsOf f) (blocks (columnsOf f) at) x 0 (subst (λ (n : ℕ). x < n) results-length h) in
-        subst (λ (n : ℕ). getD (results k signs mode a b c) x 0 < 2 ^ n) (sym sum-bits) (subst (λ (v : ℕ). v < 2 ^ 32) (sym e) (result-lt (x / columnsOf f) (x % columnsOf f)))
+    matrix-fits : Fitting (f .bits) matrix
+    matrix-fits x h =
+        let e : getD matrix x 0 ≡ at (x / columnsOf f) (x % columnsOf f)
+        = ap (λ (xs : List ℕ). getD xs x 0) matrix-is ∙ getD-tab (rowsOf f * columnsOf f) (blocks (columnsOf f) at) x 0 (subst (λ (n : ℕ). x < n) matrix-length h) in
+        subst (λ (n : ℕ). getD matrix x 0 < 2 ^ n) (sym sum-bits) (subst (λ (v : ℕ). v < 2 ^ 32) (sym e) (at-lt (x / columnsOf f) (x % columnsOf f)))
 
-    word-is : (lane i : ℕ) → lane < lanes → i < e .c → wordAt f (results k signs mode a b c) lane i ≡ at (major 2 (e .m / 8) lane i) (minor 2 (e .m / 8) lane i)
+    word-is : (lane i : ℕ) → lane < lanes → i < e .c → wordAt f matrix lane i ≡ at (major 2 (e .m / 8) lane i) (minor 2 (e .m / 8) lane i)
     word-is lane i hl hi =
-        let entries : ℕ → ℕ = λ i. getD (results k signs mode a b c) (index (columnsOf f) (placeIn f lane i)) 0 in
-        round.word-number f laid (results k signs mode a b c) results-fit results-length lane i hl hi
+        let entries : ℕ → ℕ = λ i. getD matrix (index (columnsOf f) (placeIn f lane i)) 0 in
+        round.word-number f laid matrix matrix-fits matrix-length lane i hl hi
         ∙ ap₂ (λ (b n : ℕ). field 32 i (joined b n entries)) sum-bits elements-words
-        ∙ field-joined 32 (e .c) entries (λ i h. subst (λ (v : ℕ). v < 2 ^ 32) (sym (result-at lane i hl (inside lane i hl h))) (result-lt _ _)) i hi
-        ∙ result-at lane i hl (inside lane i hl hi)
+        ∙ field-joined 32 (e .c) entries (λ i h. subst (λ (v : ℕ). v < 2 ^ 32) (sym (matrix-at lane i hl (inside lane i hl h))) (at-lt _ _)) i hi
+        ∙ matrix-at lane i hl (inside lane i hl hi)
 
-    pub stepped-is : stepped k signs mode a b c ≡ tab (lanes * e .c) (blocks (e .c) (λ lane i. at (major 2 (e .m / 8) lane i) (minor 2 (e .m / 8) lane i)))
-    unfolding stepped packed
-    stepped-is =
-        tab-ext (lanes * e .c) (blocks (e .c) (wordAt f (results k signs mode a b c))) (blocks (e .c) (λ lane i. at (major 2 (e .m / 8) lane i) (minor 2 (e .m / 8) lane i)))
+    pub words-are : wordsD k at ≡ tab (lanes * e .c) (blocks (e .c) (λ lane i. at (major 2 (e .m / 8) lane i) (minor 2 (e .m / 8) lane i)))
+    unfolding wordsD packed
+    words-are =
+        tab-ext (lanes * e .c) (blocks (e .c) (wordAt f matrix)) (blocks (e .c) (λ lane i. at (major 2 (e .m / 8) lane i) (minor 2 (e .m / 8) lane i)))
         (λ x h. word-is (x / e .c) (x % e .c) (div-lt-iff-lt-mul (laid .words-pos) .1 h) (mod-lt x (laid .words-pos)))
 
-    -- read as a matrix, D has the results
-    pub entry-D : (row column : ℕ) → row < rowsOf f → column < columnsOf f → entryIn k 2 (stepped k signs mode a b c) row column ≡ at row column
-    unfolding entryIn stepped
-    entry-D row column hr hc =
-        ap₂ (λ (xs : List ℕ) (n : ℕ). getD xs n 0) (round.pack-unpack f laid (results k signs mode a b c) results-fit results-length) (sym (index-is (row, column)))
-        ∙ ap (λ (xs : List ℕ). getD xs (index (columnsOf f) (row, column)) 0) results-are
+    pub words-length : length (wordsD k at) ≡ wordsNeeded k 2
+    words-length = ap length words-are ∙ length-tab (lanes * e .c) (blocks (e .c) (λ lane i. at (major 2 (e .m / 8) lane i) (minor 2 (e .m / 8) lane i)))
+
+    pub entry-at : (row column : ℕ) → row < rowsOf f → column < columnsOf f → entryIn k 2 (wordsD k at) row column ≡ at row column
+    unfolding entryIn wordsD
+    entry-at row column hr hc =
+        ap₂ (λ (xs : List ℕ) (n : ℕ). getD xs n 0) (round.pack-unpack f laid matrix matrix-fits matrix-length) (sym (index-is (row, column)))
+        ∙ ap (λ (xs : List ℕ). getD xs (index (columnsOf f) (row, column)) 0) matrix-is
         ∙ getD-tab (rowsOf f * columnsOf f) (blocks (columnsOf f) at) (index (columnsOf f) (row, column)) 0 (digits-lt hr hc)
         ∙ ap₂ at (digits-div row hc) (digits-mod row hc)
+
+  -- the words of D, and what is cut off there
+  module _ (signs mode : ℕ) (a b c : List ℕ) where
+    result-lt : (row column : ℕ) → resultAt k signs mode a b c row column < 2 ^ 32
+    unfolding resultAt cellOf
+    result-lt row column = word-lt _
+
+    pub cut-le : (row column : ℕ) → cutAt k signs mode a b c row column ≤ 1
+    unfolding cutAt
+    cut-le row column = mark-le (limit k mode) _ _
+
+    cut-lt : (row column : ℕ) → cutAt k signs mode a b c row column < 2 ^ 32
+    cut-lt row column = omega (arith, cut-le row column)
+
+    pub stepped-is : stepped k signs mode a b c ≡ tab (lanes * e .c) (blocks (e .c) (λ lane i. resultAt k signs mode a b c (major 2 (e .m / 8) lane i) (minor 2 (e .m / 8) lane i)))
+    unfolding stepped
+    stepped-is = words-are (resultAt k signs mode a b c) result-lt
+
+    pub stepped-length : length (stepped k signs mode a b c) ≡ wordsNeeded k 2
+    unfolding stepped
+    stepped-length = words-length (resultAt k signs mode a b c) result-lt
+
+    pub entry-D : (row column : ℕ) → row < rowsOf f → column < columnsOf f → entryIn k 2 (stepped k signs mode a b c) row column ≡ resultAt k signs mode a b c row column
+    unfolding stepped
+    entry-D row column hr hc = entry-at (resultAt k signs mode a b c) result-lt row column hr hc
+
+    pub cuts-are : cuts k signs mode a b c ≡ tab (lanes * e .c) (blocks (e .c) (λ lane i. cutAt k signs mode a b c (major 2 (e .m / 8) lane i) (minor 2 (e .m / 8) lane i)))
+    unfolding cuts
+    cuts-are = words-are (cutAt k signs mode a b c) cut-lt
+
+    pub cuts-length : length (cuts k signs mode a b c) ≡ wordsNeeded k 2
+    unfolding cuts
+    cuts-length = words-length (cutAt k signs mode a b c) cut-lt
+
+    pub entry-cut : (row column : ℕ) → row < rowsOf f → column < columnsOf f → entryIn k 2 (cuts k signs mode a b c) row column ≡ cutAt k signs mode a b c row column
+    unfolding cuts
+    entry-cut row column hr hc = entry-at (cutAt k signs mode a b c) cut-lt row column hr hc
+
+    -- what holds of 0 and at every place holds of each of them: so each is 0 or 1, and 0 where the step can't clamp
+    cuts-each : (P : ℕ → Type 0) → P 0 → ((row column : ℕ) → P (cutAt k signs mode a b c row column)) → (j : ℕ) → P (getD (cuts k signs mode a b c) j 0)
+    cuts-each P none some j = either (ltb j (lanes * e .c)) refl
+      where
+        cell : ℕ → ℕ → ℕ
+        cell lane i = cutAt k signs mode a b c (major 2 (e .m / 8) lane i) (minor 2 (e .m / 8) lane i)
+
+        either : (t : Bool) → ltb j (lanes * e .c) ≡ t → P (getD (cuts k signs mode a b c) j 0)
+        either true l =
+            subst P (sym (ap (λ (ws : List ℕ). getD ws j 0) cuts-are ∙ getD-tab (lanes * e .c) (blocks (e .c) cell) j 0 (ltb-true j (lanes * e .c) l))) (some _ _)
+        either false l = subst P (sym (getD-past (cuts k signs mode a b c) j (omega (arith, cuts-length, ltb-false j (lanes * e .c) l)))) none
+
+    pub cuts-lt : (j : ℕ) → getD (cuts k signs mode a b c) j 0 < 2
+    cuts-lt = cuts-each (λ x. x < 2) (omega arith) (λ row column. omega (arith, cut-le row column))
+
+    pub uncut-at : limit k mode ≡ 0 → (row column : ℕ) → cutAt k signs mode a b c row column ≡ 0
+    unfolding cutAt markOf
+    uncut-at z row column = rw z refl
+
+    pub uncut : limit k mode ≡ 0 → (j : ℕ) → getD (cuts k signs mode a b c) j 0 ≡ 0
+    uncut z = cuts-each (λ x. x ≡ 0) refl (uncut-at z)
 
   -- every entry of C or D is a 32-bit number
   pub entry-lt : (ws : List ℕ) (row column : ℕ) → row < rows e (roleOf 2) → column < columns e (roleOf 2) → entryIn k 2 ws row column < 2 ^ 32

@@ -8,7 +8,7 @@ use native.Mathlib.Omega.{arith}
 use lib.ListN.{length, getD}
 use lib.Pow.{pow-pos}
 use Rattle.laws.specs.Lists.{tab, blocks}
-use Rattle.laws.proofs.Lists.{tab-ext}
+use Rattle.laws.proofs.Lists.{getD-tab, tab-ext}
 use Rattle.kinds.specs.Kinds.{lanes, entryOf, integer}
 use Rattle.kinds.specs.Rule.{majors, minors, major, minor}
 use Rattle.kinds.specs.Workers.{Laid, layoutsOf}
@@ -16,17 +16,20 @@ use Rattle.kinds.specs.declared.Layout.{Layout}
 use Rattle.kinds.specs.declared.Layouts.{Layouts}
 use Rattle.kinds.proofs.Digits.{major-lt, minor-lt}
 use Rattle.kinds.proofs.Table.{not-one-bit, layoutAt, sane}
-use Rattle.step_work.specs.Step.{entryIn, depth, signWeight, unsignedA, unsignedB, products, added, resultAt, stepped}
-use Rattle.step_limit.specs.Limits.{cellOf}
+use Rattle.step_work.specs.Step.{entryIn, depth, signWeight, unsignedA, unsignedB, products, added, resultAt, stepped, cutAt, cuts}
+use Rattle.step_limit.specs.Limits.{cellOf, markOf}
+use Rattle.step_limit.specs.Marks.{keptMarks, withMarks}
+use Rattle.step_limit.proofs.Marks.{kept-all}
 use Rattle.step_work.specs.Workers.{Ready}
-use Rattle.step_products.specs.Sums.{offsetOf, raised, digitAt, offsetDot, digitsWord, digitsWords, Digits, Summable}
+use Rattle.step_products.specs.Sums.{offsetOf, raised, digitAt, offsetDot, digitsWord, digitsMark, digitsWords, digitsMarks, Digits, Summable}
 use Rattle.step_products.specs.declared.Offsets.{Offsets}
 use Rattle.buffers.proofs.Elements.{element-lt}
 use Rattle.step_products.proofs.OffsetDots.{dot-digits, offset-ext}
 use Rattle.step_products.proofs.Signs.{doubled}
+use Rattle.step_products.proofs.Worded.{marks-small}
 use Rattle.step_nibbles.specs.Planes.{Nibbled}
 use Rattle.answers.specs.Tests.{Says}
-use Rattle.step_work.proofs.Matrices.{entry-A, entry-B, entry-C, stepped-is, legal, depth-is, depth-small, pairs, bits-pos, bits-le, columns-half, halves-pos, words-pos, eight-bits, room-A, room-B, halves-le}
+use Rattle.step_work.proofs.Matrices.{entry-A, entry-B, entry-C, stepped-is, cuts-are, cuts-length, legal, depth-is, depth-small, pairs, bits-pos, bits-le, columns-half, halves-pos, words-pos, eight-bits, room-A, room-B, halves-le}
 
 module _ (k signs mode : ℕ) (ok : Ready k signs mode) (two : Says (integer k)) (a b c xs ys : List ℕ) (fit : (x : ℕ) → getD c x 0 < 2 ^ 32) where
   abbrev β : ℕ
@@ -79,20 +82,42 @@ module _ (k signs mode : ℕ) (ok : Ready k signs mode) (two : Says (integer k))
         (λ kk l. (digit-A row kk hr l, digit-B column kk hc l))
         ∙ sym (dot-digits (signWeight k) (unsignedA signs) (unsignedB signs) n (λ kk. entryIn k 0 a row kk) (λ kk. entryIn k 1 b kk column) (λ kk l. (pattern-A row kk hr l, pattern-B column kk hc l)))
 
-    word-is : (lane i : ℕ) → lane < lanes → i < entryOf k .c → digitsWord mode m oa ob (entryOf k .c) h xs ys c lane i ≡ resultAt k signs mode a b c (major 2 h lane i) (minor 2 h lane i)
-    unfolding digitsWord resultAt added
-    word-is lane i hl hi =
-        let o = ok .of in
-        let hr = major-lt 2 h (omega arith) (halves-pos k o) lane i hl in
-        let hc = minor-lt 2 h (omega arith) (halves-pos k o) 1 lane i (omega (arith, pairs k o)) in
-        rw (not-one-bit k two)
-        (ap₂ (cellOf mode) (sym (entry-C k o lane i hl hi c fit)) (sum-is (major 2 h lane i) (minor 2 h lane i) hr hc))
+    -- C's word, and what the block adds there
+    module _ (lane i : ℕ) (hl : lane < lanes) (hi : i < entryOf k .c) where
+      abbrev row : ℕ
+      row = major 2 h lane i
+
+      abbrev column : ℕ
+      column = minor 2 h lane i
+
+      old-is : getD c (lane * entryOf k .c + i) 0 ≡ entryIn k 2 c row column
+      old-is = sym (entry-C k (ok .of) lane i hl hi c fit)
+
+      adds-is : offsetDot oa ob m (λ kk. getD xs (row * m + kk) 0) (λ kk. getD ys (column * m + kk) 0) ≡ products k signs a b row column
+      adds-is =
+          let o = ok .of in
+          sum-is row column (major-lt 2 h (omega arith) (halves-pos k o) lane i hl) (minor-lt 2 h (omega arith) (halves-pos k o) 1 lane i (omega (arith, pairs k o)))
+
+      word-is : digitsWord mode m oa ob (entryOf k .c) h xs ys c lane i ≡ resultAt k signs mode a b c row column
+      unfolding digitsWord resultAt added
+      word-is = rw (not-one-bit k two) (ap₂ (cellOf mode) old-is adds-is)
+
+      mark-is : digitsMark mode m oa ob (entryOf k .c) h xs ys c lane i ≡ cutAt k signs mode a b c row column
+      unfolding digitsMark cutAt added
+      mark-is = rw (not-one-bit k two) (ap₂ (markOf mode) old-is adds-is)
 
     words-are : tab (lanes * entryOf k .c) (blocks (entryOf k .c) (digitsWord mode m oa ob (entryOf k .c) h xs ys c)) ≡ stepped k signs mode a b c
     words-are =
         tab-ext (lanes * entryOf k .c) (blocks (entryOf k .c) (digitsWord mode m oa ob (entryOf k .c) h xs ys c)) (blocks (entryOf k .c) (λ lane i. resultAt k signs mode a b c (major 2 h lane i) (minor 2 h lane i)))
         (λ x l. word-is (x / entryOf k .c) (x % entryOf k .c) (div-lt-iff-lt-mul (words-pos k (ok .of)) .1 l) (mod-lt x (words-pos k (ok .of))))
         ∙ sym (stepped-is k (ok .of) signs mode a b c)
+
+    marks-are : (j : ℕ) → j < lanes * entryOf k .c → blocks (entryOf k .c) (digitsMark mode m oa ob (entryOf k .c) h xs ys c) j ≡ getD (cuts k signs mode a b c) j 0
+    marks-are j l =
+        let each = entryOf k .c in
+        mark-is (j / each) (j % each) (div-lt-iff-lt-mul (words-pos k (ok .of)) .1 l) (mod-lt j (words-pos k (ok .of)))
+        ∙ sym (ap (λ (ws : List ℕ). getD ws j 0) (cuts-are k (ok .of) signs mode a b c)
+        ∙ getD-tab (lanes * each) (blocks each (λ lane i. cutAt k signs mode a b c (major 2 h lane i) (minor 2 h lane i))) j 0 l)
 
 -- a digit of four bits is below 16
 digit-small : (f : Layout) (offset : ℕ) (ws out : List ℕ) → f .bits ≡ 4 → Digits f offset ws out → (x y : ℕ) → x < majors f → y < minors f → getD out (x * minors f + y) 0 < 16
@@ -108,6 +133,25 @@ module _ (k signs mode : ℕ) (ok : Ready k signs mode) (two : Says (integer k))
       → Digits (l .a) (h .a) a xs → Digits (l .b) (h .b) b ys → digitsWords l mode h xs ys c ≡ stepped k signs mode a b c
   unfolding digitsWords
   multiplied a b c xs ys h fit = rw el (λ eu ev. rw (eu, ev) (words-are k signs mode ok two a b c xs ys fit))
+
+  -- and their marks, kept
+  cut-each : (a b c xs ys : List ℕ) (h : Offsets) → ((x : ℕ) → getD c x 0 < 2 ^ 32)
+      → h .a ≡ offsetOf (unsignedA signs) (2 ^ (l .a .bits - 1)) → h .b ≡ offsetOf (unsignedB signs) (2 ^ (l .a .bits - 1))
+      → Digits (l .a) (h .a) a xs → Digits (l .b) (h .b) b ys
+      → (j : ℕ) → j < lanes * l .c .words → digitsMarks l mode h xs ys c j ≡ getD (cuts k signs mode a b c) j 0
+  unfolding digitsMarks
+  cut-each a b c xs ys h fit = rw el (λ eu ev. rw (eu, ev) (marks-are k signs mode ok two a b c xs ys fit))
+
+  pub marked : (a b c xs ys marks : List ℕ) (h : Offsets) → ((x : ℕ) → getD c x 0 < 2 ^ 32) → ((x : ℕ) → getD marks x 0 < 2 ^ 32) → length marks ≡ 4
+      → h .a ≡ offsetOf (unsignedA signs) (2 ^ (l .a .bits - 1)) → h .b ≡ offsetOf (unsignedB signs) (2 ^ (l .a .bits - 1))
+      → Digits (l .a) (h .a) a xs → Digits (l .b) (h .b) b ys
+      → withMarks 0 (lanes * l .c .words) (digitsMarks l mode h xs ys c) marks ≡ keptMarks marks (cuts k signs mode a b c)
+  marked a b c xs ys marks h fit fits size eu ev dx dy =
+      let n : l .c .words ≡ entryOf k .c = rw el refl in
+      let few : lanes * l .c .words ≤ 128 = omega (arith, n, pairs k (ok .of), halves-le k (ok .of)) in
+      kept-all (digitsMarks l mode h xs ys c) (marks-small l mode h xs ys c) marks size fits (lanes * l .c .words) few (cuts k signs mode a b c)
+      (cuts-length k (ok .of) signs mode a b c ∙ ap (λ (n : ℕ). lanes * n) (sym n))
+      (cut-each a b c xs ys h fit eu ev dx dy)
 
   -- what the workers ask of the layouts
   pub numbers : Laid (l .a) × Laid (l .b) × (l .a .bits ≤ 8) × (0 < l .a .bits) × (l .b .bits ≡ l .a .bits) × (majors (l .a) * minors (l .a) ≤ 1024) × (majors (l .b) * minors (l .b) ≤ 1024) × (minors (l .a) ≤ 64)

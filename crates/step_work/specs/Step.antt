@@ -11,7 +11,7 @@ use Rattle.laws.specs.Integers.{value, sumZ}
 use Rattle.laws.specs.Lists.{tab, blocks}
 use Rattle.kinds.specs.Kinds.{entryOf, columnsAt, rowsAt, oneBit}
 use Rattle.buffers.specs.Buffers.{index, unpackedOf, packedOf}
-use Rattle.step_limit.specs.Limits.{cellOf}
+use Rattle.step_limit.specs.Limits.{cellOf, markOf}
 
 -- A, B, C and D in steps are warp buffers: the entry of a buffer's matrix at a row and a column.
 unfoldable pub entryIn : (kind role : ℕ) → List ℕ → (row column : ℕ) → ℕ
@@ -53,10 +53,18 @@ limit kind mode = if holds (oneBit kind) then 0 else mode
 unfoldable pub resultAt : (kind signs mode : ℕ) → (a b c : List ℕ) → (row column : ℕ) → ℕ
 resultAt kind signs mode a b c row column = cellOf (limit kind mode) (entryIn kind 2 c row column) (added kind signs mode a b row column)
 
-unfoldable pub results : (kind signs mode : ℕ) → (a b c : List ℕ) → List ℕ
-results kind signs mode a b c =
-    tab (rowsAt kind 2 * columnsAt kind 2) (blocks (columnsAt kind 2) (resultAt kind signs mode a b c))
+-- the words of D where its matrix has at (r, c) what `at` says
+unfoldable pub wordsD : (kind : ℕ) → (at : ℕ → ℕ → ℕ) → List ℕ
+wordsD kind at = packedOf kind 2 (tab (rowsAt kind 2 * columnsAt kind 2) (blocks (columnsAt kind 2) at))
 
 -- the words of D
 unfoldable pub stepped : (kind signs mode : ℕ) → (a b c : List ℕ) → List ℕ
-stepped kind signs mode a b c = packedOf kind 2 (results kind signs mode a b c)
+stepped kind signs mode a b c = wordsD kind (resultAt kind signs mode a b c)
+
+-- Document 02, K12: 1 where the exact result at (r, c) lay outside 32 bits in mode 1 on an integer kind,
+unfoldable pub cutAt : (kind signs mode : ℕ) → (a b c : List ℕ) → (row column : ℕ) → ℕ
+cutAt kind signs mode a b c row column = markOf (limit kind mode) (entryIn kind 2 c row column) (added kind signs mode a b row column)
+
+-- and for each word of D, in word-buffer order.
+unfoldable pub cuts : (kind signs mode : ℕ) → (a b c : List ℕ) → List ℕ
+cuts kind signs mode a b c = wordsD kind (cutAt kind signs mode a b c)

@@ -1,4 +1,5 @@
-// Shows runs: document 01's figures over 4,096 blocks, the most ones of document 02's kind 14, a clamped run in two orders, a run made up by hand, and each refusal.
+// Shows runs: document 01's figures over 4,096 blocks, the most ones of document 02's kind 14, a clamped run in two orders, document 02's
+// marks, runs made up by hand, and each refusal.
 use answers::Verdict;
 use kinds::Kind;
 use kinds::Mode;
@@ -19,6 +20,9 @@ const B_LOW: [u32; 64] = [0x8080_8080; 64];
 const B_HIGH: [u32; 64] = [0x7F7F_7F7F; 64];
 
 const C_NEAR: [u32; 128] = [2_147_483_547; 128];
+
+// C at the limit.
+const C_TOP: [u32; 128] = [2_147_483_647; 128];
 
 // Kind 1: every element 1.
 const A_ONES: [u32; 32] = [0xFFFF_FFFF; 32];
@@ -67,7 +71,34 @@ fn print_sums(run: Run, d: &mut [u32]) {
     }
     let sums = run.sums;
     print_unused(&sums, d.len());
+    print_text(b", marks");
+    print_marks(run);
     print_text(b"\n");
+}
+
+// The four words of marks.
+fn print_marks(run: Run) {
+    let mut marks: [u32; 4] = [BEFORE; 4];
+    let read = run.marks(&mut marks);
+    let verdict = read.verdict;
+    match verdict {
+        Verdict::Accepted => print_each(&marks),
+        Verdict::Refused(refusal) => print_refusal(refusal),
+    }
+}
+
+fn print_each(words: &[u32]) {
+    if words.len() != 4 {
+        return;
+    }
+    print_one(words[0]);
+    print_one(words[1]);
+    print_one(words[2]);
+    print_one(words[3]);
+}
+
+fn print_one(word: u32) {
+    print_number(b" ", word as u64);
 }
 
 fn print_selectors(call: &[u8], kind: u32, signs: u32, mode: u32) {
@@ -93,6 +124,19 @@ fn same_sums(x: [u32; 128], y: [u32; 128]) -> bool {
     true
 }
 
+fn same_marks(x: [u32; 4], y: [u32; 4]) -> bool {
+    if x[0] != y[0] {
+        return false;
+    }
+    if x[1] != y[1] {
+        return false;
+    }
+    if x[2] != y[2] {
+        return false;
+    }
+    x[3] == y[3]
+}
+
 fn same(x: Run, y: Run) -> bool {
     if x.kind.0 != y.kind.0 {
         return false;
@@ -108,7 +152,12 @@ fn same(x: Run, y: Run) -> bool {
     }
     let xs = x.sums;
     let ys = y.sums;
-    same_sums(xs, ys)
+    let v = x.marks;
+    let w = y.marks;
+    if same_sums(xs, ys) {
+        return same_marks(v, w);
+    }
+    false
 }
 
 fn print_same(x: Run, y: Run) {
@@ -127,6 +176,19 @@ fn made(kind: u32, signs: u32, mode: u32, blocks: u32) -> Run {
         mode: Mode(mode),
         blocks,
         sums: [5; 128],
+        marks: [0; 4],
+    }
+}
+
+// Another, with marks.
+fn marked(kind: u32, mode: u32, marks: [u32; 4]) -> Run {
+    Run {
+        kind: Kind(kind),
+        signs: Signs(0),
+        mode: Mode(mode),
+        blocks: 0,
+        sums: [5; 128],
+        marks,
     }
 }
 
@@ -137,6 +199,7 @@ fn zero() -> Run {
         mode: Mode(0),
         blocks: 0,
         sums: ZEROS,
+        marks: [0; 4],
     }
 }
 
@@ -251,6 +314,29 @@ fn print_order(order: &[u8], run: Run, first: &[u32], second: &[u32]) {
     print_fed(order, half, 1, second);
 }
 
+// Kind 3 from the limit: a zero block, the -128 block, and down again.
+fn limits(mode: u32) {
+    print_number(b"mode ", mode as u64);
+    let run = opened(3, mode, &C_TOP);
+    let held = fed(run, 1, &ZEROS, &B_LOW);
+    print_fed(b", a zero block: ", held, 0, &B_LOW);
+    let past = print_fed(b"block P: ", held, 1, &B_LOW);
+    print_fed(b"block N: ", past, 1, &B_HIGH);
+}
+
+// Sum word 33 alone stands at the limit.
+fn one_at_the_limit() {
+    let mut c = ZEROS;
+    c[33] = 2_147_483_647;
+    let run = opened(3, 1, &c);
+    print_fed(
+        b"sum word 33 at the limit, the others 0, block P: ",
+        run,
+        1,
+        &B_LOW,
+    );
+}
+
 fn by_hand() {
     let run = made(1, 0, 0, 7);
     print_ones(b"as it is: ", run);
@@ -347,6 +433,58 @@ fn read_refusals() {
     read_into(made(3, 0, 0, 4096), 128);
 }
 
+fn show_marks(run: Run, out: &mut [u32]) {
+    print_call(b"marks kind ", run);
+    print_number(b", ", out.len() as u64);
+    let read = run.marks(out);
+    let verdict = read.verdict;
+    let after = read.run;
+    print_verdict(b" words: ", verdict);
+    if first_other(out, BEFORE) == out.len() {
+        print_text(b", words as they were");
+    } else {
+        print_text(b",");
+        print_each(out);
+    }
+    print_same(after, run);
+}
+
+// The marks into so many words.
+fn marks_into(run: Run, n: usize) {
+    let mut out: [u32; 8] = [BEFORE; 8];
+    marks_cut(run, &mut out, n);
+}
+
+fn marks_cut(run: Run, out: &mut [u32], n: usize) {
+    if n <= out.len() {
+        show_marks(run, &mut out[0..n]);
+    }
+}
+
+// Each call on a run with a mark that it can't have.
+fn stray(run: Run, a: usize, b: usize, d: usize) {
+    feed_with(run, a, b);
+    read_into(run, d);
+    marks_into(run, 4);
+}
+
+fn marks_refusals() {
+    stray(marked(3, 0, [1, 0, 0, 0]), 128, 64, 128);
+    stray(marked(1, 1, [0, 1, 0, 0]), 32, 32, 64);
+    stray(marked(13, 1, [0, 0, 0, 0x8000_0000]), 64, 32, 128);
+    stray(marked(11, 1, [0, 0, 1, 0]), 32, 32, 64);
+    stray(marked(12, 1, [0, 0, 0, 0x8000_0000]), 32, 32, 64);
+    stray(marked(11, 1, [1, 0x8000_0000, 0, 0]), 32, 32, 64);
+    marks_into(made(6, 4, 2, 4097), 3);
+    marks_into(made(3, 0, 1, 4097), 4);
+    marks_into(marked(3, 1, [1, 2, 3, 4]), 3);
+    marks_into(marked(3, 1, [1, 2, 3, 4]), 5);
+    marks_into(marked(3, 1, [1, 2, 3, 4]), 0);
+    marks_into(marked(3, 1, [1, 2, 3, 4]), 4);
+    marks_into(made(3, 0, 0, 4096), 4);
+    marks_into(made(14, 0, 1, 0), 4);
+}
+
 fn main() {
     print_text(b"kind 3, signs 0, C all 0, block: all A and all B -128\n");
     figures(0);
@@ -354,6 +492,10 @@ fn main() {
     print_text(b"kind 3, signs 0, C all 2147483547, block P adds 524288, block N adds -520192\n");
     orders(0);
     orders(1);
+    print_text(b"kind 3, signs 0, C all 2147483647\n");
+    limits(0);
+    limits(1);
+    one_at_the_limit();
     print_text(b"kind 14, signs 0, mode 0, C all 0, block: all A 1, all B 0\n");
     most_ones();
     print_text(b"made up by hand: kind 1, mode 0, 7 blocks, all sums 5, block: all A 1, all B 0\n");
@@ -362,4 +504,5 @@ fn main() {
     open_refusals();
     feed_refusals();
     read_refusals();
+    marks_refusals();
 }

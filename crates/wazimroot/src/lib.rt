@@ -8,7 +8,7 @@ ghost use Rattle.run.specs.Runs.{zeroRun};
 ghost use Rattle.scale.specs.ScaleCall.{scaleCall};
 ghost use Rattle.answers.specs.Calls.{giving};
 ghost use Rattle.answers.specs.Contracts.{Coded};
-ghost use Rattle.words.specs.Words.{fourOf, pairOf, wordsOf, openInWords, feedInWords, readInWords};
+ghost use Rattle.words.specs.Words.{fourOf, pairOf, wordsOf, openInWords, feedInWords, readInWords, marksInWords};
 use kinds::Column;
 use kinds::Element;
 use kinds::Kind;
@@ -104,7 +104,7 @@ pub extern "C" fn wz_open(
     signs: u32,
     mode: u32,
     c: &[u32],
-    words: &mut [u32; 132],
+    words: &mut [u32; 136],
 ) -> u64
     ensures { λ r. ⌜ Coded (openInWords kind signs mode (now (c .entry))) (wordsOf zeroRun) r (now (words .exit)) ⌝ }
 {
@@ -117,7 +117,7 @@ pub extern "C" fn wz_open(
 
 // The run with one block more.
 #[no_mangle]
-pub extern "C" fn wz_feed(words: &mut [u32; 132], a: &[u32], b: &[u32]) -> u64
+pub extern "C" fn wz_feed(words: &mut [u32; 136], a: &[u32], b: &[u32]) -> u64
     ensures { λ r. ⌜ Coded (feedInWords (now (words .entry)) (now (a .entry)) (now (b .entry))) (now (words .entry)) r
         (now (words .exit)) ⌝ }
 {
@@ -127,10 +127,20 @@ pub extern "C" fn wz_feed(words: &mut [u32; 132], a: &[u32], b: &[u32]) -> u64
 
 // The used sums.
 #[no_mangle]
-pub extern "C" fn wz_read(words: &[u32; 132], d: &mut [u32]) -> u64
+pub extern "C" fn wz_read(words: &[u32; 136], d: &mut [u32]) -> u64
     ensures { λ r. ⌜ Coded (readInWords (now (words .entry)) (now (d .entry))) (now (d .entry)) r (now (d .exit)) ⌝ }
 {
     let verdict = words::taken(words).read(d).verdict;
+    words::code_of(verdict)
+}
+
+// The marks of the sums, four words.
+#[no_mangle]
+pub extern "C" fn wz_marks(words: &[u32; 136], marks: &mut [u32]) -> u64
+    ensures { λ r. ⌜ Coded (marksInWords (now (words .entry)) (now (marks .entry))) (now (marks .entry)) r
+        (now (marks .exit)) ⌝ }
+{
+    let verdict = words::taken(words).marks(marks).verdict;
     words::code_of(verdict)
 }
 

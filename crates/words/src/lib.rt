@@ -1,4 +1,4 @@
-// An answer and a run as the words that C gets: the code of a verdict, a place, a pair, and the 132 words of a run.
+// An answer and a run as the words that C gets: the code of a verdict, a place, a pair, and the 136 words of a run.
 ghost use mathlib.Core.Path.{_≡_};
 ghost use Prim.Native.Nat.{_+_, _*_, _^_, _≤_};
 ghost use mathlib.Core.List.{[], _∷_};
@@ -40,17 +40,20 @@ pub fn put_pair(out: &mut [u32], first: u32, second: u32)
 
 // A run out of its words.
 pub fn taken(words: &[u32]) -> Run
-    requires { ⌜ length (now words) ≡ 132 ⌝ }
+    requires { ⌜ length (now words) ≡ 136 ⌝ }
     ensures { λ r. ⌜ r ≡ runIn (now (words .entry)) ⌝ }
 {
     let mut sums: [u32; 128] = [0; 128];
+    let mut marks: [u32; 4] = [0; 4];
     buffers::copy(&words[4..132], &mut sums);
+    buffers::copy(&words[132..136], &mut marks);
     Run {
         kind: Kind(words[0]),
         signs: Signs(words[1]),
         mode: Mode(words[2]),
         blocks: words[3],
         sums,
+        marks,
     }
 }
 
@@ -67,17 +70,19 @@ pub fn put_four(words: &mut [u32], first: u32, second: u32, third: u32, fourth: 
 
 // A run into its words.
 pub fn put(run: Run, words: &mut [u32])
-    requires { ⌜ length (now words) ≡ 132 ⌝ }
+    requires { ⌜ length (now words) ≡ 136 ⌝ }
     ensures { λ _. ⌜ now (words .exit) ≡ wordsOf run ⌝ }
 {
     let sums = run.sums;
+    let marks = run.marks;
     buffers::copy(&sums, &mut words[4..132]);
+    buffers::copy(&marks, &mut words[132..136]);
     put_four(words, run.kind.0, run.signs.0, run.mode.0, run.blocks);
 }
 
 // The words of a run that was fed, where the feed was accepted: refused, they stay. The answer is the verdict's code.
 pub fn put_fed(fed: Handed, words: &mut [u32]) -> u64
-    requires { ⌜ length (now words) ≡ 132 ⌝ }
+    requires { ⌜ length (now words) ≡ 136 ⌝ }
     ensures code { λ r. ⌜ r ≡ codeOf (told (fed .verdict)) ⌝ }
     ensures left { λ _. ⌜ now (words .exit) ≡ after (told (fed .verdict)) (wordsOf (fed .run)) (now (words .entry)) ⌝ }
 {

@@ -20,7 +20,7 @@ fn run() -> [u32; WORDS] {
     run
 }
 
-const LONG_WORDS: [Long<u32>; 13] = [
+const LONG_WORDS: [Long<u32>; 14] = [
     ("wz_unpack words", 128, |calls, long| {
         calls.unpack(3, 0, long, &mut [0; 512])
     }),
@@ -52,6 +52,7 @@ const LONG_WORDS: [Long<u32>; 13] = [
         calls.feed(&mut run(), &[0; 128], long)
     }),
     ("wz_read D", 128, |calls, long| calls.read(&run(), long)),
+    ("wz_marks marks", 4, |calls, long| calls.marks(&run(), long)),
     ("wz_scale metadata", 32, |calls, long| {
         calls.scale([1, 0, 0, 0], long, &mut [0; 16])
     }),

@@ -3,6 +3,7 @@
 
 pub mod fragments;
 pub mod lengths;
+pub mod marks;
 pub mod orders;
 pub mod places;
 mod plan;

@@ -1,30 +1,34 @@
 //! Runs of many blocks, newly opened and fed in several orders. After each feed the run is what the
-//! rules say, and at the end its sums are what all its blocks come to.
+//! rules say, and at the end its sums and marks are what all its blocks come to.
 
-use super::plan::Plan;
+use super::plan::{Course, Due, Plan};
+use super::runs::{ask_feed, ask_marks, ask_read};
 use super::{every_selector, Bench};
-use crate::fence::{array, array_mut, compare, Fenced};
+use crate::fence::{array_mut, compare, Fenced};
 use crate::random::Random;
 use crate::report::{shown, Difference, Tally};
-use crate::run::{HEAD, MAX_BLOCKS, WORDS};
-use crate::step::{self, SUMS};
+use crate::rules::C;
+use crate::run::{marked, HEAD, MARKS, MARK_WORDS, MAX_BLOCKS, WORDS};
+use crate::step;
 use crate::wazimroot::Calls;
 
 /// Blocks of a short run.
 const SHORT: usize = 30;
 /// Feeds from one reading to the next.
 const READINGS: usize = 16;
-/// The runs of 4,096 blocks: kind, signs, mode, and whether each place gets one sign only.
-const LONG: [([u32; 3], bool); 9] = [
-    ([1, 0, 0], false),
-    ([2, 1, 0], false),
-    ([3, 0, 1], false),
-    ([3, 2, 1], true),
-    ([4, 3, 1], true),
-    ([5, 0, 1], false),
-    ([11, 0, 1], false),
-    ([12, 1, 0], false),
-    ([14, 0, 0], false),
+/// The runs of 4,096 blocks: kind, signs, mode, and which way the sums go.
+const LONG: [([u32; 3], Course); 11] = [
+    ([1, 0, 0], Course::Any),
+    ([2, 1, 0], Course::Any),
+    ([3, 0, 1], Course::Any),
+    ([3, 0, 1], Course::Back),
+    ([3, 2, 1], Course::Straight),
+    ([4, 3, 1], Course::Straight),
+    ([5, 0, 1], Course::Any),
+    ([11, 0, 1], Course::Any),
+    ([12, 1, 0], Course::Any),
+    ([12, 1, 1], Course::Back),
+    ([14, 0, 0], Course::Any),
 ];
 
 /// The buffers of a run's calls.
@@ -34,12 +38,21 @@ struct Buffers {
     a: Fenced<u32>,
     b: Fenced<u32>,
     d: Fenced<u32>,
+    marks: Fenced<u32>,
 }
 
 impl Buffers {
     fn new() -> Buffers {
-        let [c, run, a, b, d] = ["C", "run", "A", "B", "D"].map(Fenced::new);
-        Buffers { c, run, a, b, d }
+        let names = ["C", "run", "A", "B", "D", "marks"];
+        let [c, run, a, b, d, marks] = names.map(Fenced::new);
+        Buffers {
+            c,
+            run,
+            a,
+            b,
+            d,
+            marks,
+        }
     }
 
     fn open(&mut self, bench: &mut Bench, plan: &Plan) -> Result<u64, Difference> {
@@ -63,20 +76,22 @@ impl Buffers {
                 buffer.copy_from_slice(words);
             });
         }
-        let library = array_mut(run.library_mut());
-        let library = bench.library.feed(library, a.library(), b.library());
-        let rules = array_mut(run.rules_mut());
-        let rules = bench.rules.feed(rules, a.rules(), b.rules());
-        compare(library, rules, &[run, a, b], || "feed".to_string())
+        ask_feed(bench, run, a, b, || "feed".to_string())
     }
 
-    fn read(&mut self, bench: &mut Bench, length: usize) -> Result<u64, Difference> {
-        let (run, d) = (&mut self.run, &mut self.d);
+    /// Reads the sums and the marks.
+    fn read(
+        &mut self,
+        bench: &mut Bench,
+        length: usize,
+        tally: &mut Tally,
+    ) -> Result<(), Difference> {
+        let (run, d, marks) = (&self.run, &mut self.d, &mut self.marks);
         d.lay(&mut bench.random, length);
-        let library = array(run.library());
-        let library = bench.library.read(library, d.library_mut());
-        let rules = bench.rules.read(array(run.rules()), d.rules_mut());
-        compare(library, rules, &[run, d], || "read".to_string())
+        tally.count(ask_read(bench, run, d, || "read".to_string())?);
+        marks.lay(&mut bench.random, MARK_WORDS);
+        tally.count(ask_marks(bench, run, marks, || "marks".to_string())?);
+        Ok(())
     }
 
     /// Opens a run, feeds it in this order and reads it at times and at the end.
@@ -90,27 +105,23 @@ impl Buffers {
         tally.count(self.open(bench, plan)?);
         for (number, &block) in order.iter().enumerate() {
             if number % READINGS == 0 {
-                tally.count(self.read(bench, plan.start.len())?);
+                self.read(bench, plan.start.len(), tally)?;
             }
             tally.count(self.feed(bench, &plan.blocks[block])?);
         }
-        tally.count(self.read(bench, plan.start.len())?);
+        self.read(bench, plan.start.len(), tally)?;
         self.end(bench, plan, order)
     }
 
-    /// The library's run and the last D hold the sums that are due, and the number of the blocks.
+    /// The library's run, and the last D and marks, are what is due; the run has the number of the
+    /// blocks.
     fn end(&self, bench: &Bench, plan: &Plan, order: &[usize]) -> Result<(), Difference> {
-        let layouts = &bench.rules.layouts;
-        let kind = plan.selector[0];
-        let due = plan.due(layouts, order);
+        let due = plan.due(&bench.rules.layouts, order);
         let run = self.run.library();
-        for words in [&run[HEAD..][..plan.start.len()], self.d.library()] {
-            let sums = step::sums(layouts, kind, words);
-            if let Some(place) = (0..SUMS).find(|&place| sums[place] != due[place]) {
-                let (given, due) = (sums[place], due[place]);
-                let text = format!("entry {place} of D ends as {given}, its blocks come to {due}");
-                return Err(Difference::new(text));
-            }
+        let held = [&run[HEAD..][..plan.start.len()], &run[MARKS..]];
+        let read = [self.d.library(), self.marks.library()];
+        for [sums, marks] in [held, read] {
+            as_due(bench, plan.selector, &due, sums, marks)?;
         }
         if run[3] as usize != order.len() {
             let text = format!("{} blocks fed, {} counted", order.len(), run[3]);
@@ -129,6 +140,29 @@ impl Buffers {
             ))),
         }
     }
+}
+
+/// At its place each sum is what its blocks come to, and marked where it is due. K12: "In a mode 1
+/// run of an integer kind .. an unmarked sum equals its exact total".
+fn as_due(
+    bench: &Bench,
+    [kind, _, mode]: [u32; 3],
+    due: &[Due],
+    sums: &[u32],
+    marks: &[u32],
+) -> Result<(), Difference> {
+    let layout = bench.rules.layouts.of(kind, C);
+    for (j, &word) in sums.iter().enumerate() {
+        let place = step::place_of_word(layout, j);
+        let (sum, marked, due) = (i64::from(word as i32), marked(marks, j), &due[place]);
+        let exact = marked || i128::from(sum) == due.total || !step::clamps(kind, mode);
+        if (sum, marked) != (due.sum, due.marked) || !exact {
+            return Err(Difference::new(format!(
+                "entry {place} of D ends as {sum}, marked {marked}; its blocks come to {due:?}"
+            )));
+        }
+    }
+    Ok(())
 }
 
 /// One plan fed in each of these orders: as it was made, reversed, shuffled.
@@ -165,14 +199,14 @@ pub fn runs(bench: &mut Bench) -> Result<Tally, Difference> {
     let mut tally = Tally::new("runs");
     let mut buffers = Buffers::new();
     for selector in every_selector() {
-        for one_signed in [false, true] {
-            let plan = Plan::new(bench, selector, one_signed, SHORT);
+        for course in [Course::Any, Course::Straight, Course::Back] {
+            let plan = Plan::new(bench, selector, course, SHORT);
             let names = ["in order", "reversed", "shuffled"];
             orders(bench, &mut buffers, &plan, &mut tally, &names)?;
         }
     }
-    for (selector, one_signed) in LONG {
-        let plan = Plan::new(bench, selector, one_signed, MAX_BLOCKS as usize);
+    for (selector, course) in LONG {
+        let plan = Plan::new(bench, selector, course, MAX_BLOCKS as usize);
         orders(
             bench,
             &mut buffers,

@@ -1,11 +1,32 @@
-//! What a run of many blocks is made of, and what its sums come to.
+//! What a run of many blocks is made of, and what its sums and marks come to.
 
 use super::{step_lengths, Bench};
-use crate::layout::Layouts;
+use crate::layout::{Layout, Layouts};
 use crate::random::Random;
 use crate::rules::{A, B};
 use crate::step::{self, SUMS};
 use crate::{bits, values};
+
+/// Which way the sums go.
+#[derive(Clone, Copy)]
+pub enum Course {
+    /// As it comes.
+    Any,
+    /// What is added at a place has one sign.
+    Straight,
+    /// What is added at a place has one sign in the first half of the blocks and the other in the
+    /// second, where A or B is signed.
+    Back,
+}
+
+/// What a place comes to.
+#[derive(Debug)]
+pub struct Due {
+    pub sum: i64,
+    pub marked: bool,
+    /// The exact total.
+    pub total: i128,
+}
 
 /// All that a run is made of.
 pub struct Plan {
@@ -20,21 +41,21 @@ pub struct Plan {
 }
 
 impl Plan {
-    pub fn new(bench: &mut Bench, selector: [u32; 3], one_signed: bool, blocks: usize) -> Plan {
+    pub fn new(bench: &mut Bench, selector: [u32; 3], course: Course, blocks: usize) -> Plan {
         let layouts = &bench.rules.layouts;
         let [na, nb, nc, _] = step_lengths(bench.rules, selector[0]);
         let random = &mut bench.random;
         let mut plan = Plan {
             selector,
-            start: (0..nc).map(|_| start_word(random)).collect(),
+            start: (0..nc).map(|_| values::sum_word(random)).collect(),
             blocks: Vec::new(),
             contributions: Vec::new(),
         };
-        for _ in 0..blocks {
-            let [a, b] = if one_signed {
-                [A, B].map(|role| one_signed_words(layouts, random, selector, role))
-            } else {
-                [na, nb].map(|length| any_words(random, length))
+        for block in 0..blocks {
+            let [a, b] = match course {
+                Course::Any => [na, nb].map(|length| any_words(random, length)),
+                Course::Straight => one_signed_block(layouts, random, selector, false),
+                Course::Back => one_signed_block(layouts, random, selector, block >= blocks / 2),
             };
             let added = step::contributions(layouts, selector, &a, &b);
             plan.contributions.push(added);
@@ -43,34 +64,36 @@ impl Plan {
         plan
     }
 
-    /// The sums after all blocks in this order, row-major. Where the run wraps, the exact total
-    /// wrapped; where it clamps, the exact total clamped at a place whose contributions have one
-    /// sign, and at another the total clamped after each block.
-    pub fn due(&self, layouts: &Layouts, order: &[usize]) -> [i64; SUMS] {
+    /// What each place comes to after all blocks in this order, row-major.
+    pub fn due(&self, layouts: &Layouts, order: &[usize]) -> Vec<Due> {
         let [kind, _, mode] = self.selector;
         let clamps = step::clamps(kind, mode);
-        let mut sums = step::sums(layouts, kind, &self.start);
-        for (place, sum) in sums.iter_mut().enumerate() {
-            let parts = || order.iter().map(|&block| self.contributions[block][place]);
-            let one_signed = parts().all(|part| part >= 0) || parts().all(|part| part <= 0);
-            if !clamps || one_signed {
-                *sum = step::finish(clamps, i128::from(*sum) + parts().sum::<i128>());
-            } else {
-                parts().for_each(|part| *sum = step::finish(true, i128::from(*sum) + part));
-            }
-        }
-        sums
+        let starts = step::sums(layouts, kind, &self.start);
+        let due = |(place, start)| {
+            let parts = order.iter().map(|&block| self.contributions[block][place]);
+            due_at(clamps, start, &parts.collect::<Vec<i128>>())
+        };
+        starts.into_iter().enumerate().map(due).collect()
     }
 }
 
-/// A sum to start from: near a limit, nothing, or any.
-fn start_word(random: &mut Random) -> u32 {
-    match random.below(4) {
-        0 => i32::MAX as u32 - random.small(1 << 17),
-        1 => i32::MIN as u32 + random.small(1 << 17),
-        2 => 0,
-        _ => random.draw() as u32,
+/// Where the run wraps, the exact total wrapped; where it clamps, the exact total clamped at a
+/// place whose contributions have one sign, and at another the total clamped after each block. A
+/// mark where something was clamped.
+fn due_at(clamps: bool, start: i64, parts: &[i128]) -> Due {
+    let total = i128::from(start) + parts.iter().sum::<i128>();
+    let one_signed = parts.iter().all(|&part| part >= 0) || parts.iter().all(|&part| part <= 0);
+    if !clamps || one_signed {
+        let (sum, marked) = (step::finish(clamps, total), clamps && step::outside(total));
+        return Due { sum, marked, total };
     }
+    let (mut sum, mut marked) = (start, false);
+    for part in parts {
+        let exact = i128::from(sum) + part;
+        sum = step::finish(true, exact);
+        marked |= step::outside(exact);
+    }
+    Due { sum, marked, total }
 }
 
 fn any_words(random: &mut Random, length: usize) -> Vec<u32> {
@@ -79,18 +102,37 @@ fn any_words(random: &mut Random, length: usize) -> Vec<u32> {
     words
 }
 
-/// Words whose numbers are below 0 throughout the odd rows of A or odd columns of B where they are
-/// signed, and not below 0 elsewhere: so every place gets one sign.
-fn one_signed_words(
+/// The words of A and of B that add a number of one sign at each place, or when turned one of the
+/// other: A's rows are turned where A is signed, otherwise B's columns.
+fn one_signed_block(
     layouts: &Layouts,
     random: &mut Random,
     selector: [u32; 3],
-    role: u32,
-) -> Vec<u32> {
+    turned: bool,
+) -> [Vec<u32>; 2] {
     let [kind, signs, _] = selector;
-    let layout = layouts.of(kind, role);
+    let turning = if step::signed(kind, signs, A) { A } else { B };
+    [A, B].map(|role| {
+        let below = if turned && role == turning { 0 } else { 1 };
+        let signed = step::signed(kind, signs, role);
+        one_signed_words(
+            layouts.of(kind, role),
+            random,
+            role,
+            signed.then_some(below),
+        )
+    })
+}
+
+/// Words whose numbers are below 0 throughout every second row of A or column of B, from row or
+/// column `below` on, and not below 0 elsewhere; with none they are unsigned.
+fn one_signed_words(
+    layout: &Layout,
+    random: &mut Random,
+    role: u32,
+    below: Option<usize>,
+) -> Vec<u32> {
     let columns = layout.columns as usize;
-    let signed = step::signed(kind, signs, role);
     let all = 1u64 << layout.bits;
     let mut matrix = vec![0; layout.matrix_length()];
     for (at, entry) in matrix.iter_mut().enumerate() {
@@ -99,10 +141,10 @@ fn one_signed_words(
         } else {
             at % columns
         };
-        *entry = match (signed, line % 2) {
-            (false, _) => random.draw() % all,
-            (true, 0) => random.draw() % (all / 2),
-            (true, _) => all / 2 + random.draw() % (all / 2),
+        *entry = match below {
+            None => random.draw() % all,
+            Some(below) if line % 2 == below => all / 2 + random.draw() % (all / 2),
+            Some(_) => random.draw() % (all / 2),
         };
     }
     let mut words = vec![0; layout.buffer_length()];

@@ -1,8 +1,9 @@
--- Mode 0 wraps the sum; mode 1 clamps it once, above the lowest number: each way out is one case of the minimum. Assumes nothing.
+-- Mode 0 wraps the sum; mode 1 clamps it once, above the lowest number: each way out is one case of the minimum, and inside or not. Assumes nothing.
 use borrow.Author.Needs.{needs}
 use mathlib.Core.Path.{_∙_}
+use mathlib.Core.Logic.{inl, inr}
 use native.Mathlib.Omega.{arith}
-use Rattle.step_limit.proofs.Cells.{wrapped, clamped}
+use Rattle.step_limit.proofs.Cells.{wrapped, clamped, wraps-unmarked, inside, cut-off}
 use Rattle.step_limit.proofs.limited.Statement.{statement}
 use Rattle.step_limit.proofs.limited.Tie as tie
 
@@ -15,7 +16,10 @@ wrapping-sub-u32-requires c κs = search needs
 returns : tie.Need-returns
 returns c =
     let s = c .before .before .before .args in
-    wrapped (s .mode .0) (s .c) (s .plus) (s .minus) (omega arith) (c .before .before .if1 .taken) (omega arith) (c .wrapping-sub-u32 .ensures ∙ c .before .wrapping-add-u32 .ensures)
+    let m = c .before .before .if1 .taken in (
+      wrapped (s .mode .0) (s .c) (s .plus) (s .minus) (omega arith) m (omega arith) (c .wrapping-sub-u32 .ensures ∙ c .before .wrapping-add-u32 .ensures),
+      wraps-unmarked (s .mode .0) (s .c) (s .plus) (s .minus) (omega arith) m,
+    )
 
 wrapping-add-u32-requires-2 : tie.Need-wrapping-add-u32-requires-2
 wrapping-add-u32-requires-2 c κs = search needs
@@ -28,11 +32,10 @@ add-above c = search needs
 
 returns-2 : tie.Need-returns-2
 returns-2 c =
-    let s = c .before .before .before .args in
-    clamped (s .mode .0) (s .c) (s .plus) (s .minus) (omega arith) (omega arith) (omega arith)
-
-sub-exact : tie.Need-sub-exact
-sub-exact c = search needs
+    let s = c .before .before .before .args in (
+      clamped (s .mode .0) (s .c) (s .plus) (s .minus) (omega arith) (omega arith) (omega arith),
+      cut-off (s .mode .0) (s .c) (s .plus) (s .minus) (omega arith) (omega arith) (inl (omega arith)),
+    )
 
 cast-wrapping-add-u32 : tie.Need-cast-wrapping-add-u32
 cast-wrapping-add-u32 c = search needs
@@ -42,13 +45,17 @@ wrapping-add-u32-requires-3 c κs = search needs
 
 returns-3 : tie.Need-returns-3
 returns-3 c =
-    let s = c .before .before .before .before .before .args in
-    clamped (s .mode .0) (s .c) (s .plus) (s .minus) (omega arith) (omega arith) (omega arith)
+    let s = c .before .before .before .before .before .args in (
+      clamped (s .mode .0) (s .c) (s .plus) (s .minus) (omega arith) (omega arith) (omega arith),
+      inside (s .mode .0) (s .c) (s .plus) (s .minus) (omega arith) (omega arith) (omega arith) (omega arith),
+    )
 
 returns-4 : tie.Need-returns-4
 returns-4 c =
-    let s = c .before .before .before .before .args in
-    clamped (s .mode .0) (s .c) (s .plus) (s .minus) (omega arith) (omega arith) (omega arith)
+    let s = c .before .before .before .before .args in (
+      clamped (s .mode .0) (s .c) (s .plus) (s .minus) (omega arith) (omega arith) (omega arith),
+      cut-off (s .mode .0) (s .c) (s .plus) (s .minus) (omega arith) (omega arith) (inr (omega arith)),
+    )
 
 pub limited-spec : {M : Type 1} → statement M
 limited-spec =
@@ -61,7 +68,6 @@ limited-spec =
     cast-above
     add-above
     returns-2
-    sub-exact
     cast-wrapping-add-u32
     wrapping-add-u32-requires-3
     returns-3

@@ -10,9 +10,9 @@ use lib.ListN.{getD}
 use Rattle.kinds.specs.Kinds.{lanes}
 use Rattle.kinds.specs.Rule.{major, minor, minors}
 use Rattle.kinds.proofs.Digits.{major-lt, minor-lt}
-use Rattle.step_limit.specs.Limits.{cellOf}
-use Rattle.step_products.specs.Sums.{digitsWord}
-use Rattle.step_products.proofs.Worded.{digits-word}
+use Rattle.step_limit.specs.Limits.{cellOf, markOf}
+use Rattle.step_products.specs.Sums.{digitsWord, digitsMark}
+use Rattle.step_products.proofs.Worded.{digits-word, digits-mark}
 use Rattle.step_nibbles.specs.Planes.{Small}
 use Rattle.step_nibbles.proofs.cell.Statement.{statement}
 use Rattle.step_nibbles.proofs.cell.Tie as tie
@@ -79,6 +79,7 @@ exact-requires c κs =
     let p = S (c .before .before) .pre in
     (omega (arith, c .multiple .ensures .0, p .0 .spans-le), p .1 .offset-a, p .1 .offset-b, omega (arith, d .products-le, p .0 .spans-le), omega (arith, d .a-le, p .0 .spans-le), omega (arith, d .b-le, p .0 .spans-le))
 
+-- the sums that were worked out are those at the place of the word's lane and element
 returns : tie.Need-returns
 returns c =
     let e = c .before .before in
@@ -90,13 +91,18 @@ returns c =
     let n : e .before .multiple .result ≡ spans s * 32 = e .before .multiple .ensures .0 ∙ omega arith in
     let lane-is : lane t ≡ k s / each = t .before .before .before .lane-of .ensures .0 ∙ ap (λ (n : ℕ). k s / n) (sym (s .pre .0 .pairs)) in
     let element-is : i t ≡ k s % each = t .before .before .element-of .ensures .0 ∙ ap (λ (n : ℕ). k s % n) (sym (s .pre .0 .pairs)) in
-    subst (λ (n : ℕ). c .limited .result ≡ digitsWord (a .mode .0) n (a .h .a) (a .h .b) each (halves s) (now (a .x)) (now (a .y)) (now (a .c)) (k s / each) (k s % each)) (sym (long s))
-    (digits-word (a .mode .0) (spans s * 32) each (halves s) (a .h) (now (a .x)) (now (a .y)) (now (a .c)) (k s / each) (k s % each) (d .dot-at .result) (e .exact .result)
-    (t .before .across .ensures .0 ∙ ap₂ (major 2 (halves s)) lane-is element-is)
-    (t .along .ensures .0 ∙ ap₂ (minor 2 (halves s)) lane-is element-is)
-    (d .dot-at .ensures)
-    (e .exact .ensures .0 .0 ∙ ap (λ (n : ℕ). d .dot-at .result .products + n * (a .h .a * a .h .b)) n, e .exact .ensures .0 .1)
-    (c .limited .ensures ∙ ap (λ (n : ℕ). cellOf (a .mode .0) (getD (now (a .c)) n 0) (subℕ (e .exact .result .plus) (e .exact .result .minus))) (sym (div-add-mod' (k s) each))))
+    let row-is = t .before .across .ensures .0 ∙ ap₂ (major 2 (halves s)) lane-is element-is in
+    let column-is = t .along .ensures .0 ∙ ap₂ (minor 2 (halves s)) lane-is element-is in
+    let split : (e .exact .result .plus ≡ d .dot-at .result .products + spans s * 32 * (a .h .a * a .h .b)) × (e .exact .result .minus ≡ a .h .a * d .dot-at .result .b + a .h .b * d .dot-at .result .a)
+    = (e .exact .ensures .0 .0 ∙ ap (λ (n : ℕ). d .dot-at .result .products + n * (a .h .a * a .h .b)) n, e .exact .ensures .0 .1) in
+    let at = sym (div-add-mod' (k s) each) in (
+      subst (λ (n : ℕ). c .limited .result .word ≡ digitsWord (a .mode .0) n (a .h .a) (a .h .b) each (halves s) (now (a .x)) (now (a .y)) (now (a .c)) (k s / each) (k s % each)) (sym (long s))
+          (digits-word (a .mode .0) (spans s * 32) each (halves s) (a .h) (now (a .x)) (now (a .y)) (now (a .c)) (k s / each) (k s % each) (d .dot-at .result) (e .exact .result) row-is column-is (d .dot-at .ensures) split
+          (c .limited .ensures .0 ∙ ap (λ (n : ℕ). cellOf (a .mode .0) (getD (now (a .c)) n 0) (subℕ (e .exact .result .plus) (e .exact .result .minus))) at)),
+      subst (λ (n : ℕ). c .limited .result .mark ≡ digitsMark (a .mode .0) n (a .h .a) (a .h .b) each (halves s) (now (a .x)) (now (a .y)) (now (a .c)) (k s / each) (k s % each)) (sym (long s))
+          (digits-mark (a .mode .0) (spans s * 32) each (halves s) (a .h) (now (a .x)) (now (a .y)) (now (a .c)) (k s / each) (k s % each) (d .dot-at .result) (e .exact .result) row-is column-is (d .dot-at .ensures) split
+          (c .limited .ensures .1 ∙ ap (λ (n : ℕ). markOf (a .mode .0) (getD (now (a .c)) n 0) (subℕ (e .exact .result .plus) (e .exact .result .minus))) at)),
+    )
 
 pub cell-spec : {M : Type 1} → statement M
 cell-spec =

@@ -106,7 +106,7 @@ loop-again c =
     let s = S t .args in
     let d = now (s .d) in
     let f = word (s .halves) (now (s .s)) (now (s .c)) in
-    let w = word-is (s .halves) (now (s .s)) (now (s .c)) (k t) _ _ _ (o .place-of .ensures) refl (c .limited .ensures) in
+    let w = word-is (s .halves) (now (s .s)) (now (s .c)) (k t) _ _ _ (o .place-of .ensures) refl (c .limited .ensures .0) in
     let e = ap₂ (λ (ys : List ℕ) (v : ℕ). set ys (k t) v) (t .before .loop .inv .1) w ∙ fills-front (k t) f d in
     (omega arith, e, ap length e ∙ length-fills 0 (k t + 1) f d)
 

@@ -1,19 +1,21 @@
 -- Each turn brings one word more of the lane. Assumes nothing.
 use borrow.Author.Needs.{needs}
-use mathlib.Core.Path.{_≡_, sym, subst, _∙_}
+use mathlib.Core.Path.{_≡_, refl, sym, ap, ap₂, subst, _∙_}
 use mathlib.Core.List.{List}
 use Prim.Native.Nat.{ℕ, _+_, _*_, _-_, _<_, _≤_}
 use native.Mathlib.Omega.{arith}
 use denote.Ref.{now}
-use lib.ListN.{length}
+use lib.ListN.{length, getD}
 use Rattle.laws.specs.Toward.{Brings, Below, At}
 use Rattle.laws.proofs.Lists.{block-le}
 use Rattle.laws.proofs.Toward.{brings-none, brings-more, brings-set}
 use Rattle.kinds.specs.Rule.{minor, minors}
 use Rattle.kinds.specs.declared.Layout.{Layout}
 use Rattle.kinds.proofs.Digits.{minor-lt}
-use Rattle.step_products.specs.Sums.{digitsWords}
-use Rattle.step_products.proofs.Worded.{wordsBy, word-at, digits-word}
+use Rattle.step_products.specs.Sums.{digitsWords, digitsMarks}
+use Rattle.step_limit.specs.Marks.{withMark, withMarks}
+use Rattle.step_limit.proofs.Marks.{with-one}
+use Rattle.step_products.proofs.Worded.{wordsBy, marksBy, word-at, mark-at, marks-le, digits-word, digits-mark}
 use Rattle.step_products.proofs.lane_cells.Statement.{statement}
 use Rattle.step_products.proofs.lane_cells.Tie as tie
 
@@ -21,10 +23,14 @@ abbrev Words : Layout → (lane : ℕ) → ℕ → ℕ → Type 0
 Words g lane i = At (lane * g .words + i)
 
 abbrev Inv-loop : tie.InvT-loop
-Inv-loop mode h x y c d₀ lane g n i₀ i-end d i = (i ≤ g .words) × Brings (wordsBy g n (mode .0) h x y c) (Below i (Words g (lane .0))) d₀ d
+Inv-loop mode h x y c d₀ marks₀ lane g n i₀ i-end d marks i =
+    (i ≤ g .words)
+    × Brings (wordsBy g n (mode .0) h x y c) (Below i (Words g (lane .0))) d₀ d
+    × (marks ≡ withMarks (lane .0 * g .words) i (marksBy g n (mode .0) h x y c) marks₀)
+    × (length marks ≡ 4)
 
 abbrev μ-loop : tie.MeasureT-loop
-μ-loop mode h x y c d₀ lane g n i₀ i-end d i = g .words - i
+μ-loop mode h x y c d₀ marks₀ lane g n i₀ i-end d marks i = g .words - i
 
 module _ (s : tie.Start Inv-loop μ-loop) where
   abbrev g : Layout
@@ -36,9 +42,12 @@ module _ (s : tie.Start Inv-loop μ-loop) where
   abbrev u : List ℕ
   u = wordsBy g n (s .args .mode .0) (s .args .h) (now (s .args .x)) (now (s .args .y)) (now (s .args .c))
 
+  abbrev v : ℕ → ℕ
+  v = marksBy g n (s .args .mode .0) (s .args .h) (now (s .args .x)) (now (s .args .y)) (now (s .args .c))
+
 module _ (c : tie.In-loop Inv-loop μ-loop) where
   abbrev S : tie.Start Inv-loop μ-loop
-  S = c .before .before .before .before .before .before .before .before
+  S = c .before .before .before .before .before .before .before .before .before
 
   abbrev lane : ℕ
   lane = S .args .lane .0
@@ -66,19 +75,48 @@ module _ (c : tie.After-along Inv-loop μ-loop) where
   column-ends : c .along .result * n T + n T ≤ 1024
   column-ends = omega (arith, block-le (c .along .result) 8 (n T) (omega (arith, c .along .ensures .0, column-lt (c .before .before))), T .pre .0 .deep)
 
+-- the word and its mark are those of the lane's element
+module _ (c : tie.After-limited Inv-loop μ-loop) where
+  abbrev A : tie.After-along Inv-loop μ-loop
+  A = c .before .before .before .before .before .before
+
+  abbrev i : tie.In-loop Inv-loop μ-loop
+  i = A .before .before
+
+  abbrev s : tie.Start Inv-loop μ-loop
+  s = S i
+
+  word-is : c .limited .result .word ≡ getD (u s) (lane i * g s .words + I i) 0
+  word-is =
+      let a = s .args in
+      digits-word (a .mode .0) (n s) (g s .words) (g s .halves) (a .h) (now (a .x)) (now (a .y)) (now (a .c)) (lane i) (I i) (c .before .before .before .before .before .dot-of .result) (c .before .before .before .before .exact .result)
+      (A .before .across .ensures .0) (A .along .ensures .0) (c .before .before .before .before .before .dot-of .ensures) (c .before .before .before .before .exact .ensures .0) (c .limited .ensures .0)
+      ∙ sym (word-at (g s) (n s) (a .mode .0) (a .h) (now (a .x)) (now (a .y)) (now (a .c)) (lane i) (I i) (s .pre .1) (i .loop-test .taken))
+
+  mark-is : c .limited .result .mark ≡ v s (lane i * g s .words + I i)
+  mark-is =
+      let a = s .args in
+      digits-mark (a .mode .0) (n s) (g s .words) (g s .halves) (a .h) (now (a .x)) (now (a .y)) (now (a .c)) (lane i) (I i) (c .before .before .before .before .before .dot-of .result) (c .before .before .before .before .exact .result)
+      (A .before .across .ensures .0) (A .along .ensures .0) (c .before .before .before .before .before .dot-of .ensures) (c .before .before .before .before .exact .ensures .0) (c .limited .ensures .1)
+      ∙ sym (mark-at (g s) (n s) (a .mode .0) (a .h) (now (a .x)) (now (a .y)) (now (a .c)) (lane i) (I i) (i .loop-test .taken))
+
+  small : c .limited .result .mark ≤ 1
+  small = let a = s .args in subst (λ (m : ℕ). m ≤ 1) (sym mark-is) (marks-le (g s) (n s) (a .mode .0) (a .h) (now (a .x)) (now (a .y)) (now (a .c)) (lane i * g s .words + I i))
+
 mul-n : tie.Need-mul-n Inv-loop μ-loop
-mul-n c = omega (arith, c .before .before .before .before .before .pre .0 .spans-le)
+mul-n c = omega (arith, c .before .before .before .before .before .before .pre .0 .spans-le)
 
 mul-n-2 : tie.Need-mul-n-2 Inv-loop μ-loop
-mul-n-2 c = omega (arith, c .before .before .before .before .before .before .pre .0 .deep)
+mul-n-2 c = omega (arith, c .before .before .before .before .before .before .before .pre .0 .deep)
 
 loop-holds : tie.Need-loop-holds Inv-loop μ-loop
+unfolding withMarks
 loop-holds c =
-    let s = c .before .before .before .before .before .before in
-    (omega arith, brings-none (u s) (Words (g s) (s .args .lane .0)) (now (s .args .d)))
+    let s = c .before .before .before .before .before .before .before in
+    (omega arith, brings-none (u s) (Words (g s) (s .args .lane .0)) (now (s .args .d)), refl, s .pre .2)
 
-cast-d : tie.Need-cast-d Inv-loop μ-loop
-cast-d c = omega (arith, few c)
+cast-limited : tie.Need-cast-limited Inv-loop μ-loop
+cast-limited c = omega (arith, few c)
 
 across-requires : tie.Need-across-requires Inv-loop μ-loop
 across-requires c κs = let p = S c .pre in (omega arith, p .0 .halves-pos, p .0 .halves-le, p .1)
@@ -122,36 +160,35 @@ mul-d c = omega (arith, word-in (c .before .before .before .before .before .befo
 slice-write-d : tie.Need-slice-write-d Inv-loop μ-loop
 slice-write-d c = let i = c .before .before .before .before .before .before .before .before in omega (arith, word-in i, i .before .loop .inv .1 .same, S i .pre .0 .of-d)
 
-add-i : tie.Need-add-i Inv-loop μ-loop
-add-i c = omega (arith, few (c .before .before .before .before .before .before .before .before))
-
-loop-less : tie.Need-loop-less Inv-loop μ-loop
-loop-less c = let i = c .before .before .before .before .before .before .before .before in omega (arith, i .loop-test .taken)
+keep-requires : tie.Need-keep-requires Inv-loop μ-loop
+keep-requires c κs =
+    let i = c .before .before .before .before .before .before .before .before .before in
+    (i .before .loop .inv .3, word-in i .1, small (c .before))
 
 loop-again : tie.Need-loop-again Inv-loop μ-loop
 loop-again c =
-    let i = c .before .before .before .before .before .before .before .before in
+    let k = c .before .before in
+    let t = k .before .before in
+    let i = t .before .before .before .before .before .before .before .before in
     let s = S i in
-    let a = s .args in
     let l = i .before .loop in
-    let v =
-    digits-word (a .mode .0) (n s) (g s .words) (g s .halves) (a .h) (now (a .x)) (now (a .y)) (now (a .c)) (lane i) (l .i) (c .before .before .before .before .before .dot-of .result) (c .before .before .before .before .exact .result)
-    (c .before .before .before .before .before .before .before .across .ensures .0) (c .before .before .before .before .before .before .along .ensures .0) (c .before .before .before .before .before .dot-of .ensures) (c .before .before .before .before .exact .ensures .0) (c .limited .ensures)
-    ∙ sym (word-at (g s) (n s) (a .mode .0) (a .h) (now (a .x)) (now (a .y)) (now (a .c)) (lane i) (l .i) (s .pre .1) (i .loop-test .taken)) in
-    let k = lane i * g s .words + l .i in
-    let at : k < length (l .d) = omega (arith, word-in i, l .inv .1 .same, s .pre .0 .of-d) in
-    (omega (arith, i .loop-test .taken), brings-more (u s) (Words (g s) (lane i)) (l .i) (now (a .d)) (l .d) _ (l .inv .1) (brings-set (u s) (l .d) k (c .limited .result) at v))
-
-same-length : tie.Need-same-length Inv-loop μ-loop
-same-length c = c .before .loop .inv .1 .same
+    let at-word = lane i * g s .words + l .i in
+    let at : at-word < length (l .d) = omega (arith, word-in i, l .inv .1 .same, s .pre .0 .of-d) in (
+      omega (arith, i .loop-test .taken),
+      brings-more (u s) (Words (g s) (lane i)) (l .i) (now (s .args .d)) (l .d) _ (l .inv .1) (brings-set (u s) (l .d) at-word (t .limited .result .word) at (word-is t)),
+      k .keep .ensures ∙ ap₂ (λ (m : ℕ) (ms : List ℕ). withMark at-word m ms) (mark-is t) (l .inv .2) ∙ with-one (lane i * g s .words) (l .i) (v s) (now (s .args .marks)),
+      k .keep .kept .0 ∙ l .inv .3,
+    )
 
 returns : tie.Need-returns Inv-loop μ-loop
-unfolding digitsWords
+unfolding digitsWords digitsMarks
 returns c =
-    let s = c .before .before .before .before .before .before .before .before in
+    let s = c .before .before .before .before .before .before .before .before .before in
     let l = c .before .loop in
-    let e : l .i ≡ g s .words = omega arith in
-    subst (λ (n : ℕ). Brings (u s) (Below n (Words (g s) (s .args .lane .0))) (now (s .args .d)) (l .d)) e (l .inv .1)
+    let e : l .i ≡ g s .words = omega arith in (
+      subst (λ (n : ℕ). Brings (u s) (Below n (Words (g s) (s .args .lane .0))) (now (s .args .d)) (l .d)) e (l .inv .1),
+      l .inv .2 ∙ ap (λ (n : ℕ). withMarks (s .args .lane .0 * g s .words) n (v s) (now (s .args .marks))) e,
+    )
 
 pub lane-cells-spec : {M : Type 1} → statement M
 lane-cells-spec =
@@ -162,7 +199,7 @@ lane-cells-spec =
     mul-n
     mul-n-2
     loop-holds
-    cast-d
+    cast-limited
     across-requires
     along-requires
     mul-dot-of
@@ -177,8 +214,10 @@ lane-cells-spec =
     limited-requires
     mul-d
     slice-write-d
-    add-i
-    loop-less
+    keep-requires
+    (λ c. search needs)
+    (λ c. search needs)
     loop-again
-    same-length
+    (λ c. c .before .loop .inv .1 .same)
+    (λ c. search needs)
     returns)

@@ -8,13 +8,15 @@ use Prim.Native.Nat.{ℕ, _-_, _*_, _^_, _<_, _≤_}
 use native.Mathlib.Omega.{arith}
 use denote.Ref.{now}
 use lib.ListN.{length}
+use Rattle.kinds.specs.Kinds.{lanes}
 use Rattle.kinds.specs.Rule.{majors, minors}
 use Rattle.kinds.specs.Workers.{Laid}
 use Rattle.kinds.specs.declared.Layouts.{Layouts}
-use Rattle.step_products.specs.Sums.{offsetOf, straight, Digits, Digitised, Summable, digitsWords}
+use Rattle.step_products.specs.Sums.{offsetOf, straight, Digits, Digitised, Summable, digitsWords, digitsMarks}
 use Rattle.step_products.specs.declared.Offsets.{Offsets}
+use Rattle.step_limit.specs.Marks.{keptMarks, withMarks}
 use Rattle.step_nibbles.specs.Planes.{Nibbled}
-use Rattle.step_work.specs.Step.{unsignedA, unsignedB, stepped}
+use Rattle.step_work.specs.Step.{unsignedA, unsignedB, stepped, cuts}
 use Rattle.step_work.proofs.Multiplied as sums
 use Rattle.step_work.proofs.multiply.Statement.{statement}
 use Rattle.step_work.proofs.multiply.Tie as tie
@@ -26,7 +28,7 @@ either b o false e = inr e
 
 module _ (k : tie.After-of) where
   abbrev S : tie.Start
-  S = k .before .before .before .before .before
+  S = k .before .before .before .before .before .before
 
   abbrev l : Layouts
   l = k .of .result
@@ -76,7 +78,11 @@ module _ (t : tie.After-struct-known) where
 
     multiplied : digitsWords (l K) (S K .args .mode .0) h xs ys (now (S K .args .c)) ≡ stepped (S K .args .kind .0) (S K .args .signs .0) (S K .args .mode .0) (now (S K .args .a)) (now (S K .args .b)) (now (S K .args .c))
     multiplied =
-        sums.multiplied _ _ _ (S K .pre .0 .0) (S K .pre .0 .1) (l K) (K .of .ensures) _ _ _ xs ys h (λ x. K .before .before .shared-slice-known3 .given x .fits) offset-A offset-B dx dy
+        sums.multiplied _ _ _ (S K .pre .0 .0) (S K .pre .0 .1) (l K) (K .of .ensures) _ _ _ xs ys h (λ x. K .before .before .before .shared-slice-known3 .given x .fits) offset-A offset-B dx dy
+
+    marked : withMarks 0 (lanes * l K .c .words) (digitsMarks (l K) (S K .args .mode .0) h xs ys (now (S K .args .c))) (now (S K .args .marks)) ≡ keptMarks (now (S K .args .marks)) (cuts (S K .args .kind .0) (S K .args .signs .0) (S K .args .mode .0) (now (S K .args .a)) (now (S K .args .b)) (now (S K .args .c)))
+    marked =
+        sums.marked _ _ _ (S K .pre .0 .0) (S K .pre .0 .1) (l K) (K .of .ensures) _ _ _ xs ys _ h (λ x. K .before .before .before .shared-slice-known3 .given x .fits) (λ x. K .before .slice-known2 .given x .fits) (S K .pre .0 .2) offset-A offset-B dx dy
 
 eight : (e : tie.Else1) → bits (e .before) ≡ 8
 eight e = let k = K (e .before) in sums.eight _ _ _ (S k .pre .0 .0) (S k .pre .0 .1) (l k) (k .of .ensures) (e .if1 .left)
@@ -98,16 +104,18 @@ digits-requires-2 c κs =
 
 cells-requires : tie.Need-cells-requires
 cells-requires c κs =
-    let b = c .before .before .before in
+    let b = c .before .before .before .before in
     let a = b .before .before in
     let t = a .before .before in
-    (summable (t .before), nibbled (t .before) _ _ (a .digits .ensures) (b .digits2 .ensures) (t .if1 .taken))
+    (summable (t .before), nibbled (t .before) _ _ (a .digits .ensures) (b .digits2 .ensures) (t .if1 .taken), S (K (t .before)) .pre .0 .2)
 
 returns : tie.Need-returns
 returns c =
-    let b = c .before .before .before .before .before .before in
+    let e = c .before .before .before .before in
+    let b = e .before .before .before .before .before in
     let a = b .before .before in
-    c .before .before .cells .ensures ∙ multiplied (a .before .before .before) _ _ (a .digits .ensures) (b .digits2 .ensures)
+    let t = a .before .before .before in
+    (e .cells .ensures .0 ∙ multiplied t _ _ (a .digits .ensures) (b .digits2 .ensures), e .cells .ensures .1 ∙ marked t _ _ (a .digits .ensures) (b .digits2 .ensures))
 
 digits-requires-3 : tie.Need-digits-requires-3
 digits-requires-3 c κs = let a = asked-A (c .before .before) _ refl in (a .0, a .1, eight (c .before))
@@ -119,13 +127,15 @@ digits-requires-4 c κs =
     (b .0, b .1, known (K (e .before)) .4 ∙ eight e)
 
 cells-requires-2 : tie.Need-cells-requires-2
-cells-requires-2 c κs = summable (c .before .before .before .before .before .before .before .before)
+cells-requires-2 c κs = let t = c .before .before .before .before .before .before .before .before .before in (summable t, S (K t) .pre .0 .2)
 
 returns-2 : tie.Need-returns-2
 returns-2 c =
-    let b = c .before .before .before .before .before .before in
+    let e = c .before .before .before .before in
+    let b = e .before .before .before .before .before in
     let a = b .before .before in
-    c .before .before .cells2 .ensures ∙ multiplied (a .before .before .before) _ _ (a .digits3 .ensures) (b .digits4 .ensures)
+    let t = a .before .before .before in
+    (e .cells2 .ensures .0 ∙ multiplied t _ _ (a .digits3 .ensures) (b .digits4 .ensures), e .cells2 .ensures .1 ∙ marked t _ _ (a .digits3 .ensures) (b .digits4 .ensures))
 
 pub multiply-spec : {M : Type 1} → statement M
 multiply-spec =
@@ -142,9 +152,11 @@ multiply-spec =
     digits-requires-2
     cells-requires
     (λ c. search needs)
+    (λ c. search needs)
     returns
     digits-requires-3
     digits-requires-4
     cells-requires-2
+    (λ c. search needs)
     (λ c. search needs)
     returns-2)

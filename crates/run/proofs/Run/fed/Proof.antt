@@ -14,10 +14,14 @@ use Rattle.run.proofs.Run.fed.Tie as tie
 long : (s : tie.Start) → length (s .args .self .sums) ≡ 128
 long s = search needs
 
+-- and four words of marks
+four : (s : tie.Start) → length (s .args .self .marks) ≡ 4
+four s = search needs
+
 -- the used ones are among them
 module _ (c : tie.After-of2) where
   abbrev S : tie.Start
-  S = c .before .before .before .before .before .before .before .before .before
+  S = c .before .before .before .before .before .before .before .before .before .before
 
   is : c .of2 .result .c ≡ wordsNeeded (S .args .self .kind .0) 2
   is = c .of2 .ensures .2
@@ -42,9 +46,9 @@ slice-aggregate-work-2 c = sym (length-take-le _ _ (omega (arith, inside (c .bef
 
 work-requires : tie.Need-work-requires
 work-requires c κs =
-    let n = c .before .before in
+    let n = c .before .before .before in
     let p = S n .pre in (
-      (p .0 .0, n .before .of .ensures .0),
+      (p .0 .0, n .before .of .ensures .0, four (S n)),
       record {
         of-a = p .1 .0;
         of-b = p .1 .1;
@@ -55,9 +59,9 @@ work-requires c κs =
 
 returns : tie.Need-returns
 returns c =
-    let n = c .before .before .before .before in
-    let w = c .before .work in
-    fed-is (S n .args .self) (n .of2 .result .c) _ _ _ (w .kept .1 .1 .1 .1 .1 .1 .1 .0 ∙ length-take-le _ _ (omega (arith, inside n))) (is n) (w .ensures)
+    let n = c .before .before .before .before .before .before in
+    let w = c .before .before .work in
+    fed-is (S n .args .self) (n .of2 .result .c) _ _ _ _ (w .kept .1 .1 .1 .1 .1 .1 .1 .0 ∙ length-take-le _ _ (omega (arith, inside n))) (is n) (w .ensures .0) (w .ensures .1)
 
 pub fed-spec : {M : Type 1} → statement M
 fed-spec =
@@ -70,5 +74,6 @@ fed-spec =
     slice-aggregate-work
     array-borrow-prefix-d
     slice-aggregate-work-2
+    (λ c. sym (four (S (c .before .before .before))))
     work-requires
     returns)

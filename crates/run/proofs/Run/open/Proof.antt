@@ -2,7 +2,7 @@
 use borrow.Author.Needs.{needs}
 use Rattle.laws.specs.Lists.{tab}
 use Rattle.answers.proofs.Shows.{admitted, worked, kept}
-use Rattle.run.specs.Runs.{zeros, zeroRun}
+use Rattle.run.specs.Runs.{zeros, noMarks, zeroRun}
 use Rattle.run.proofs.Laws.{open-passes}
 use Rattle.run.proofs.Run.open.Statement.{statement}
 use Rattle.run.proofs.Run.open.Tie as tie
@@ -14,7 +14,7 @@ returns : tie.Need-returns
 returns c = worked (c .before .before .before .judge-open .ensures) (c .before .enum-told .given .1) (c .opened .ensures)
 
 returns-2 : tie.Need-returns-2
-unfolding zeroRun zeros tab
+unfolding zeroRun zeros noMarks tab
 returns-2 c = kept (c .before .before .judge-open .ensures) (c .enum-told2 .given .1)
 
 pub open-spec : {M : Type 1} → statement M

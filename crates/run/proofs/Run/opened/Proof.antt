@@ -7,7 +7,7 @@ use denote.Ref.{now}
 use lib.ListN.{length, take, drop}
 use lib.Seq.{length-take-le}
 use Rattle.laws.specs.Lists.{tab}
-use Rattle.run.specs.Runs.{runOf, zeros, withUsed, openedRun}
+use Rattle.run.specs.Runs.{runOf, zeros, noMarks, withUsed, openedRun}
 use Rattle.run.proofs.Laws.{used-le, length-zeros}
 use Rattle.run.proofs.Run.opened.Statement.{statement}
 use Rattle.run.proofs.Run.opened.Tie as tie
@@ -34,10 +34,10 @@ unfolding zeros tab
 copy-requires c κs = sym (front (c .before))
 
 returns : tie.Need-returns
-unfolding openedRun withUsed zeros tab
+unfolding openedRun withUsed zeros noMarks tab
 returns c =
     let s = c .before .before .before .before in
-    ap (λ (xs : List ℕ). runOf (s .args .kind .0) (s .args .signs .0) (s .args .mode .0) 0 (xs ++ drop (length (now (s .args .c))) zeros)) (c .before .copy .ensures)
+    ap (λ (xs : List ℕ). runOf (s .args .kind .0) (s .args .signs .0) (s .args .mode .0) 0 (xs ++ drop (length (now (s .args .c))) zeros) noMarks) (c .before .copy .ensures)
 
 pub opened-spec : {M : Type 1} → statement M
 opened-spec =
