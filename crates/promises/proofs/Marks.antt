@@ -19,7 +19,7 @@ use Rattle.answers.specs.Tests.{Says}
 use Rattle.answers.specs.Right.{Denies}
 use Rattle.answers.proofs.Words.{says}
 use Rattle.answers.proofs.Shows.{passes}
-use Rattle.kinds.specs.Kinds.{integer}
+use Rattle.kinds.specs.Kinds.{oneBit, integer}
 use Rattle.kinds.proofs.Table.{not-one-bit}
 use Rattle.buffers.specs.Buffers.{wordsNeeded}
 use Rattle.step_limit.specs.Limits.{markOf}
@@ -99,8 +99,9 @@ module _ (k signs mode : ℕ) (c : List ℕ) (opened : openAnswer k signs mode (
       only (inl e) = absurd (omega (arith, e, runs.none-marked k signs mode c opened row column hr hc))
       only (inr h) = h
 
--- 'Refusals: 10 also covers a mark past the last sum or in a run that can't clamp', in feed, in read and in reading marks.
-module _ (run : Run) (j : ℕ) (l : j < 128) (set : markIn (run .marks) j ≡ 1) (stray : (wordsNeeded (kindIn run) 2 ≤ j) ⊎ Says (cannotClamp (kindIn run) (modeIn run))) where
+-- 'Refusals: 10 also covers a mark past the last sum or in a run that can't clamp', which is one of mode 0 or of a one-bit kind, in feed, in read and in
+-- reading marks.
+module _ (run : Run) (j : ℕ) (l : j < 128) (set : markIn (run .marks) j ≡ 1) (stray : (wordsNeeded (kindIn run) 2 ≤ j) ⊎ ((modeIn run ≡ 0) ⊎ Says (oneBit (kindIn run)))) where
   bad : Says (badRun run)
   bad = inr (j, l, (set, stray))
 
@@ -109,7 +110,7 @@ module _ (run : Run) (j : ℕ) (l : j < 128) (set : markIn (run .marks) j ≡ 1)
   stray-refused a b d n = let h = says (badRun run) .1 bad in (rw h refl, rw h refl, rw h refl)
 
 -- The marks of a good run that can't clamp read as four zero words.
-pub reads-zeros : (run : Run) (n : ℕ) → marksAnswer run n ≡ given tt → Says (cannotClamp (kindIn run) (modeIn run))
+pub reads-zeros : (run : Run) (n : ℕ) → marksAnswer run n ≡ given tt → (modeIn run ≡ 0) ⊎ Says (oneBit (kindIn run))
     → length (run .marks) ≡ 4 → ((w : ℕ) → getD (run .marks) w 0 < 2 ^ 32)
     → run .marks ≡ noMarks
 unfolding marksAnswer noMarks markWords tab joined
@@ -118,7 +119,7 @@ reads-zeros run n e never size fit = words-marks (run .marks) size fit (λ j. 0)
     good : Denies (badRun run)
     good = passes (marksRefusals run n) tt e .0
 
-    clash : Says (cannotClamp (kindIn run) (modeIn run)) → Denies (cannotClamp (kindIn run) (modeIn run)) → ⊥
+    clash : (modeIn run ≡ 0) ⊎ Says (oneBit (kindIn run)) → Denies (cannotClamp (kindIn run) (modeIn run)) → ⊥
     clash (inl m) d = d .0 m
     clash (inr b) d = d .1 b
 
