@@ -39,7 +39,7 @@ use Rattle.run.specs.Blocks.{Block, fedBy, fedAll, AllAccepted, contribu
 use Rattle.run.proofs.Laws.{used-le, wrapping, feed-accepted, mark-after}
 use Rattle.run.proofs.Demand.{place-next}
 
--- two marks
+-- one of two marks
 marked-or : (x y : ℕ) → y ≤ 1 → (orMark x y ≡ 1) ↔ ((x ≡ 1) ⊎ (y ≡ 1))
 marked-or x y h = either (x =? 1) refl
   where
@@ -56,6 +56,7 @@ module _ (run : Run) (ok : Ready (kindIn run) (signsIn run) (modeIn run)) (row c
   abbrev k : ℕ
   k = kindIn run
 
+  -- the word in which it stands
   abbrev J : ℕ
   J = wordOf k (ok .of) row column
 
@@ -71,7 +72,7 @@ module _ (run : Run) (ok : Ready (kindIn run) (signsIn run) (modeIn run)) (row c
   pub J-few : J < 128
   J-few = omega (arith, J-in, used-le k (ok .of))
 
-  -- its mark is that of the word in which it stands, and so is what a step cuts off there
+  -- its mark is that of the word, and so is what a step cuts off there
   bits-fit : (marks : List ℕ) (x : ℕ) → getD (tab (wordsNeeded k 2) (markIn marks)) x 0 < 2 ^ 32
   bits-fit marks x = either (ltb x (wordsNeeded k 2)) refl
     where
@@ -180,7 +181,7 @@ module _ (run : Run) (x : Block) (accepted : feedAnswer run (length (x .a)) (len
   pub column-kept : column < columnsD (kindIn (fedBy run x))
   column-kept = subst (λ (n : ℕ). column < columnsD n) (sym kind-kept) hc
 
-  -- and mode and signs
+  -- and what it adds up and marks by
   module _ (one : modeIn run ≡ 1) (two : Says (integer (kindIn run))) where
     pub mode-kept : modeIn (fedBy run x) ≡ 1
     unfolding fedRun

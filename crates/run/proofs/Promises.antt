@@ -197,7 +197,7 @@ accepted-of run [] = tt
 accepted-of run (x ∷ xs) = all-kept run x (feedAnswer run (length (x .a)) (length (x .b))) refl (acceptedOf (fedBy run x) xs) (accepted-of (fedBy run x) xs)
 
 -- 'No boat reaches another boat's row', over whole runs: two runs opened alike in row r, fed blocks that agree in row r of A and in B, agree in row r at
--- the end.
+-- the end,
 unfoldable pub Alike : (k row : ℕ) → List Block → List Block → Type 0
 Alike k row [] [] = Unit {0}
 Alike k row [] (y ∷ ys) = ⊥
@@ -216,29 +216,19 @@ same-adds k signs mode row column hc (x ∷ xs) [] h = absurd h
 same-adds k signs mode row column hc (x ∷ xs) (y ∷ ys) h =
     ap₂ _∷_ (same-added k signs mode row (x .a) (y .a) (x .b) (y .b) [] [] (h .0) (h .1) (λ column l. refl) column hc) (same-adds k signs mode row column hc xs ys (h .2))
 
-pub own-row : (k signs mode : ℕ) (c c′ : List ℕ) → openAnswer k signs mode (length c) ≡ given tt
-    → openAnswer k signs mode (length c′) ≡ given tt
-    → (row : ℕ) → row < rowsD k
-    → ((column : ℕ) → column < columnsD k → entryIn k 2 c row column ≡ entryIn k 2 c′ row column)
-    → (xs ys : List Block) → AllAccepted (openedRun k signs mode c) xs → AllAccepted (openedRun k signs mode c′) ys
-    → Alike k row xs ys
-    → (column : ℕ) → column < columnsD k
-    → sumAt (fedAll (openedRun k signs mode c) xs) row column ≡ sumAt (fedAll (openedRun k signs mode c′) ys) row column
-own-row k signs mode c c′ o o′ row hr same xs ys a b h column hc =
-    sum-is k signs mode c o row column hr hc xs a
-    ∙ ap₂ (λ (w : ℕ) (zs : List ℤ). int32 (fedCell (limit k mode) w zs)) (same column hc) (same-adds k signs mode row column hc xs ys h)
-    ∙ sym (sum-is k signs mode c′ o′ row column hr hc ys b)
+module _ (k signs mode : ℕ) (c c′ : List ℕ) (o : openAnswer k signs mode (length c) ≡ given tt) (o′ : openAnswer k signs mode (length c′) ≡ given tt)
+    (row : ℕ) (hr : row < rowsD k) (same : (column : ℕ) → column < columnsD k → entryIn k 2 c row column ≡ entryIn k 2 c′ row column)
+    (xs ys : List Block) (a : AllAccepted (openedRun k signs mode c) xs) (b : AllAccepted (openedRun k signs mode c′) ys) (h : Alike k row xs ys)
+    (column : ℕ) (hc : column < columnsD k) where
+  pub own-row : sumAt (fedAll (openedRun k signs mode c) xs) row column ≡ sumAt (fedAll (openedRun k signs mode c′) ys) row column
+  own-row =
+      sum-is k signs mode c o row column hr hc xs a
+      ∙ ap₂ (λ (w : ℕ) (zs : List ℤ). int32 (fedCell (limit k mode) w zs)) (same column hc) (same-adds k signs mode row column hc xs ys h)
+      ∙ sym (sum-is k signs mode c′ o′ row column hr hc ys b)
 
--- and their marks agree there too.
-pub own-marks : (k signs mode : ℕ) (c c′ : List ℕ) → openAnswer k signs mode (length c) ≡ given tt
-    → openAnswer k signs mode (length c′) ≡ given tt
-    → (row : ℕ) → row < rowsD k
-    → ((column : ℕ) → column < columnsD k → entryIn k 2 c row column ≡ entryIn k 2 c′ row column)
-    → (xs ys : List Block) → AllAccepted (openedRun k signs mode c) xs → AllAccepted (openedRun k signs mode c′) ys
-    → Alike k row xs ys
-    → (column : ℕ) → column < columnsD k
-    → markAt (fedAll (openedRun k signs mode c) xs) row column ≡ markAt (fedAll (openedRun k signs mode c′) ys) row column
-own-marks k signs mode c c′ o o′ row hr same xs ys a b h column hc =
-    mark-from k signs mode c o row column hr hc xs a
-    ∙ ap₂ (λ (w : ℕ) (zs : List ℤ). fedMark (limit k mode) w 0 zs) (same column hc) (same-adds k signs mode row column hc xs ys h)
-    ∙ sym (mark-from k signs mode c′ o′ row column hr hc ys b)
+  -- and so do their marks.
+  pub own-marks : markAt (fedAll (openedRun k signs mode c) xs) row column ≡ markAt (fedAll (openedRun k signs mode c′) ys) row column
+  own-marks =
+      mark-from k signs mode c o row column hr hc xs a
+      ∙ ap₂ (λ (w : ℕ) (zs : List ℤ). fedMark (limit k mode) w 0 zs) (same column hc) (same-adds k signs mode row column hc xs ys h)
+      ∙ sym (mark-from k signs mode c′ o′ row column hr hc ys b)
