@@ -1,5 +1,5 @@
 -- Laws of fields: a joined number has the fields that it was joined of, a number is joined of its fields, and a field of a wide field is a
--- field of the whole. Assumes nothing.
+-- field of the whole; of single bits, 0 has none set and every other number one, and those of two numbers are joined by or. Assumes nothing.
 use mathlib.Core.Path.{_≡_, refl, sym, ap, ap₂, _∙_, subst}
 use mathlib.Core.Bool.{Bool, true, false}
 use mathlib.Core.Logic.{⊎-elim}

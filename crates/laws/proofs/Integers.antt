@@ -1,5 +1,5 @@
 -- Laws of words and numbers: a word32 is determined by a congruence, wrapping in between changes nothing, and clamping is a minimum and a
--- truncated difference above the lowest number. Assumes nothing.
+-- truncated difference above the lowest number, which leaves alone what is inside. Assumes nothing.
 use mathlib.Core.Path.{_≡_, refl, sym, _∙_, ap, ap₂, subst}
 use mathlib.Core.Bool.{Bool, true, false, not}
 use mathlib.Core.Logic.{_↔_, _⊎_, inl, inr}

@@ -1,4 +1,4 @@
--- What an accepted call tells of its run and its lengths, and the used sums. Assumes nothing.
+-- What an accepted call tells of its run and its lengths, the used sums, and which marks a good run can have. Assumes nothing.
 use mathlib.Core.Path.{_≡_, refl, sym, ap, ap₂, _∙_}
 use mathlib.Core.Bool.{Bool, true, false, false≢true}
 use mathlib.Core.List.{List, _++_}

@@ -19,7 +19,8 @@ use Rattle.laws.specs.Fields.{field, joined}
 use Rattle.laws.proofs.Fields.{field-lt, field-or, field-joined, joined-field, joined-ext, bit-there, bit-elsewhere, no-bit, some-bit}
 use Rattle.laws.proofs.Lists.{is-tab, getD-tab}
 use Rattle.laws.proofs.Toward.{same-or-not}
-use Rattle.step_limit.specs.Marks.{markIn, markWords, keptMarks, withMark, withMarks}
+use Rattle.step_limit.specs.Marks.{markIn, markWords, keptMarks}
+use Rattle.step_limit.specs.Workers.{withMark, withMarks}
 
 -- a mark set, or what it was
 abbrev pub orMark : (old new : ℕ) → ℕ

@@ -1,8 +1,7 @@
 -- Document 02, K12: 128 marks as 128 bits in four words, low bit first. Assumes nothing.
-use Prim.Native.Nat.{ℕ, zero, suc, _+_, _*_, _/_, _%_, _^_}
+use Prim.Native.Nat.{ℕ, _+_, _*_, _/_, _%_}
 use mathlib.Core.List.{List}
-use lib.Bits.{bitOr}
-use lib.ListN.{getD, set}
+use lib.ListN.{getD}
 use Rattle.laws.specs.Choice.{if_then_else_, _=?_}
 use Rattle.laws.specs.Fields.{field, joined}
 use Rattle.laws.specs.Lists.{tab}
@@ -18,11 +17,3 @@ markWords f = tab 4 (λ w. joined 1 32 (λ i. f (w * 32 + i)))
 -- a mark once set is kept, and it is set where a list has 1
 unfoldable pub keptMarks : (marks cuts : List ℕ) → List ℕ
 keptMarks marks cuts = markWords (λ j. if markIn marks j =? 1 then 1 else getD cuts j 0)
-
--- as the code keeps them: one, and n of them from base on
-unfoldable pub withMark : (j mark : ℕ) (marks : List ℕ) → List ℕ
-withMark j mark marks = set marks (j / 32) (bitOr (getD marks (j / 32) 0) (mark * 2 ^ (j % 32)))
-
-unfoldable pub withMarks : (base n : ℕ) (cut : ℕ → ℕ) (marks : List ℕ) → List ℕ
-withMarks base zero cut marks = marks
-withMarks base (suc n) cut marks = withMark (base + n) (cut (base + n)) (withMarks base n cut marks)

@@ -4,7 +4,7 @@ ghost use Prim.Native.Nat.{_<_, _≤_};
 ghost use lib.IntN.{subℕ};
 ghost use lib.ListN.{length};
 ghost use Rattle.step_limit.specs.Limits.{cellOf, markOf};
-ghost use Rattle.step_limit.specs.Marks.{withMark};
+ghost use Rattle.step_limit.specs.Workers.{withMark};
 use kinds::Mode;
 
 // A word of D, and 1 where the exact result lay outside 32 bits.

@@ -8,7 +8,7 @@ ghost use lib.ListN.{length, getD};
 ghost use Rattle.laws.specs.Fields.{joined};
 ghost use Rattle.kinds.specs.Kinds.{lanes};
 ghost use Rattle.kinds.specs.Rule.{minors};
-ghost use Rattle.step_limit.specs.Marks.{withMarks};
+ghost use Rattle.step_limit.specs.Workers.{withMarks};
 ghost use Rattle.step_products.specs.Sums.{Dots, straight, Digits, Digitised, Summable, digitsWord, digitsMark, digitsWords, digitsMarks};
 ghost use Rattle.step_nibbles.specs.Planes.{Planes, Small, Nibbled};
 use kinds::Element;

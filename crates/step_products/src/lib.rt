@@ -9,7 +9,7 @@ ghost use Rattle.laws.specs.Fields.{field, joined};
 ghost use Rattle.laws.specs.Toward.{stores, Brings, Below, At};
 ghost use Rattle.kinds.specs.Kinds.{lanes};
 ghost use Rattle.kinds.specs.Rule.{shape, laneOf, elementOf};
-ghost use Rattle.step_limit.specs.Marks.{withMarks};
+ghost use Rattle.step_limit.specs.Workers.{withMarks};
 ghost use Rattle.step_products.specs.Sums.{Dots, straight, masked, Digits, Digitised, Summable, digitsWords, digitsMarks};
 use kinds::Element;
 use kinds::Lane;

@@ -1,4 +1,4 @@
--- The entries of A, B and C by the words that hold them, and the words of D by the results at their places. Assumes nothing.
+-- The entries of A, B and C by the words that hold them, and the words of a matrix of D by its entries: the results, and what is cut off. Assumes nothing.
 use mathlib.Core.Path.{_≡_, refl, sym, ap, ap₂, subst, _∙_}
 use mathlib.Core.Bool.{Bool, true, false}
 use mathlib.Core.List.{List}

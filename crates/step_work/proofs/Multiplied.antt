@@ -18,7 +18,8 @@ use Rattle.kinds.proofs.Digits.{major-lt, minor-lt}
 use Rattle.kinds.proofs.Table.{not-one-bit, layoutAt, sane}
 use Rattle.step_work.specs.Step.{entryIn, depth, signWeight, unsignedA, unsignedB, products, added, resultAt, stepped, cutAt, cuts}
 use Rattle.step_limit.specs.Limits.{cellOf, markOf}
-use Rattle.step_limit.specs.Marks.{keptMarks, withMarks}
+use Rattle.step_limit.specs.Marks.{keptMarks}
+use Rattle.step_limit.specs.Workers.{withMarks}
 use Rattle.step_limit.proofs.Marks.{kept-all}
 use Rattle.step_work.specs.Workers.{Ready}
 use Rattle.step_products.specs.Sums.{offsetOf, raised, digitAt, offsetDot, digitsWord, digitsMark, digitsWords, digitsMarks, Digits, Summable}

@@ -1,4 +1,4 @@
--- Document 01, 'One step', and document 02, K5: 13 and 14 take modes and signs as kind 1 does. Assumes nothing.
+-- Document 01, 'One step', and document 02, K5: 13 and 14 take modes and signs as kind 1 does, and K12: where a step cuts off. Assumes nothing.
 use Prim.Native.Nat.{ℕ, _*_, _-_, _^_}
 use mathlib.Core.Bool.{Bool, _||_}
 use mathlib.Core.List.{List}

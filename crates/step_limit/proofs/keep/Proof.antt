@@ -9,7 +9,7 @@ use lib.Bits.{bitOr, or-zero-r}
 use lib.ListN.{getD, set}
 use lib.Pow.{shl-exact}
 use lib.Seq.{set-getD}
-use Rattle.step_limit.specs.Marks.{withMark}
+use Rattle.step_limit.specs.Workers.{withMark}
 use Rattle.step_limit.proofs.keep.Statement.{statement}
 use Rattle.step_limit.proofs.keep.Tie as tie
 

@@ -12,7 +12,7 @@ use Rattle.laws.proofs.Lists.{fills-front, fills-all, length-fills}
 use Rattle.kinds.specs.Kinds.{lanes}
 use Rattle.kinds.specs.Rule.{minors}
 use Rattle.kinds.specs.declared.Layouts.{Layouts}
-use Rattle.step_limit.specs.Marks.{withMark, withMarks}
+use Rattle.step_limit.specs.Workers.{withMark, withMarks}
 use Rattle.step_limit.proofs.Marks.{with-one}
 use Rattle.step_products.specs.Sums.{digitsWord, digitsWords, digitsMarks}
 use Rattle.step_products.specs.declared.Offsets.{Offsets}

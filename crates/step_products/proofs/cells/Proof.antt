@@ -10,7 +10,7 @@ use denote.Ref.{now}
 use lib.ListN.{length}
 use Rattle.laws.specs.Toward.{Brings, Below, At}
 use Rattle.laws.proofs.Toward.{brings-none, brings-more, brings-all}
-use Rattle.step_limit.specs.Marks.{withMarks}
+use Rattle.step_limit.specs.Workers.{withMarks}
 use Rattle.step_limit.proofs.Marks.{with-block}
 use Rattle.kinds.specs.Kinds.{lanes}
 use Rattle.step_products.specs.Sums.{digitsWords, digitsMarks}

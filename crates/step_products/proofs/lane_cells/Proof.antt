@@ -13,7 +13,7 @@ use Rattle.kinds.specs.Rule.{minor, minors}
 use Rattle.kinds.specs.declared.Layout.{Layout}
 use Rattle.kinds.proofs.Digits.{minor-lt}
 use Rattle.step_products.specs.Sums.{digitsWords, digitsMarks}
-use Rattle.step_limit.specs.Marks.{withMark, withMarks}
+use Rattle.step_limit.specs.Workers.{withMark, withMarks}
 use Rattle.step_limit.proofs.Marks.{with-one}
 use Rattle.step_products.proofs.Worded.{wordsBy, marksBy, word-at, mark-at, marks-le, digits-word, digits-mark}
 use Rattle.step_products.proofs.lane_cells.Statement.{statement}

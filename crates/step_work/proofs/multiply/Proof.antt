@@ -14,7 +14,8 @@ use Rattle.kinds.specs.Workers.{Laid}
 use Rattle.kinds.specs.declared.Layouts.{Layouts}
 use Rattle.step_products.specs.Sums.{offsetOf, straight, Digits, Digitised, Summable, digitsWords, digitsMarks}
 use Rattle.step_products.specs.declared.Offsets.{Offsets}
-use Rattle.step_limit.specs.Marks.{keptMarks, withMarks}
+use Rattle.step_limit.specs.Marks.{keptMarks}
+use Rattle.step_limit.specs.Workers.{withMarks}
 use Rattle.step_nibbles.specs.Planes.{Nibbled}
 use Rattle.step_work.specs.Step.{unsignedA, unsignedB, stepped, cuts}
 use Rattle.step_work.proofs.Multiplied as sums
