@@ -1,9 +1,11 @@
 // What every call answers: a refusal, which is a number and a detail, or a verdict.
+#![tactic(auto)]
+
 ghost use Rattle.std.specs.Prelude.{◌≡◌};
 ghost use Rattle.answers.specs.Refusals.{number_of, detail_of};
 
 // The refusals of the whole bench, in the order of their numbers, with the detail where one has it.
-#[derive(Drop)]
+#[derive(Clone, Copy)]
 pub enum Refusal {
     UnknownKind,
     UnknownRole,
@@ -62,7 +64,7 @@ impl Refusal {
 }
 
 // The answer of a call that gives nothing back but what it writes.
-#[derive(Drop)]
+#[derive(Clone, Copy)]
 pub enum Verdict {
     Accepted,
     Refused(Refusal),

@@ -1,4 +1,5 @@
 // What a warp buffer and a matrix buffer hold: the definitions and laws of unpacking and packing, and what the two calls share.
+#![tactic(auto)]
 ghost use Rattle.std.specs.Prelude.{◌≡◌, ◌+◌, ◌*◌, ◌<◌, ◌≤◌, length};
 ghost use Rattle.laws.specs.Fields.{field};
 ghost use Rattle.kinds.specs.Kinds.{lanes, entry_of};
@@ -11,10 +12,10 @@ ghost use Rattle.buffers.specs.Stretches.{size_of, abreast_in, stretches_of, hol
 use kinds::{Element, Entry, Kind, Lane, Layout, Spot};
 
 // A quad of a warp, and a stretch of a lane: the elements that one word holds, or one element that takes a word or two.
-#[derive(Drop)]
+#[derive(Clone, Copy)]
 pub struct Quad(pub usize);
 
-#[derive(Drop)]
+#[derive(Clone, Copy)]
 pub struct Stretch(pub usize);
 
 impl Quad {
@@ -31,7 +32,7 @@ impl Quad {
 }
 
 // The words that A, B and C of a kind need, by its line.
-#[derive(Drop)]
+#[derive(Clone, Copy)]
 pub struct Lengths {
     pub a: usize,
     pub b: usize,

@@ -1,1 +1,2 @@
 // The starred bench figures as one statement: definitions and proofs, no code.
+#![tactic(auto)]

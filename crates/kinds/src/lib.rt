@@ -1,4 +1,6 @@
 // The kinds of documents 01 and 02: their table, and how a kind and a role lie in a warp.
+#![tactic(auto)]
+
 ghost use Rattle.std.specs.Prelude.{◌≡◌, ◌<◌, ◌≤◌};
 ghost use Rattle.answers.specs.Promised.{Replies};
 ghost use Rattle.kinds.specs.Kinds.{kinds, sum_bits, entry_of, role_of};
@@ -11,34 +13,34 @@ use answers::Refusal;
 pub mod rule;
 
 // Every number that could be taken for another has its own type. Any u32 may stand in it: what is out of range is refused.
-#[derive(Drop)]
+#[derive(Clone, Copy)]
 pub struct Kind(pub u32);
 
-#[derive(Drop)]
+#[derive(Clone, Copy)]
 pub struct Role(pub u32);
 
-#[derive(Drop)]
+#[derive(Clone, Copy)]
 pub struct Lane(pub u32);
 
-#[derive(Drop)]
+#[derive(Clone, Copy)]
 pub struct Element(pub u32);
 
-#[derive(Drop)]
+#[derive(Clone, Copy)]
 pub struct Row(pub u32);
 
-#[derive(Drop)]
+#[derive(Clone, Copy)]
 pub struct Column(pub u32);
 
-#[derive(Drop)]
+#[derive(Clone, Copy)]
 pub struct Word(pub u32);
 
-#[derive(Drop)]
+#[derive(Clone, Copy)]
 pub struct Bit(pub u32);
 
-#[derive(Drop)]
+#[derive(Clone, Copy)]
 pub struct Signs(pub u32);
 
-#[derive(Drop)]
+#[derive(Clone, Copy)]
 pub struct Mode(pub u32);
 
 impl Kind {
@@ -64,7 +66,7 @@ impl Lane {
 }
 
 // Where an element stands in its lane: its number, its word and its lowest bit in that word.
-#[derive(Drop)]
+#[derive(Clone, Copy)]
 pub struct Spot {
     pub element: Element,
     pub word: Word,
@@ -73,6 +75,7 @@ pub struct Spot {
 
 impl Spot {
     // An element that takes two words stands in the low one, from bit 0 up.
+    #[tactic(auto, unfolding(crate::specs::Places::word_within, crate::specs::Places::lowest_bit))]
     pub fn of(bits: usize, element: Element) -> Spot
         requires { (bits ≤ 64) × (element.0 ≤ 128) }
         ensures is { (result.element ≡ element) × (result.word.0 ≡ word_within bits element.0) ×
@@ -89,7 +92,7 @@ impl Spot {
 }
 
 // A line of the kinds table: m, n, k; bits of an A or B element, and what it is; words per lane of A, of B, of C or D.
-#[derive(Drop)]
+#[derive(Clone, Copy)]
 pub struct Line(
     pub u16,
     pub u16,
@@ -102,7 +105,7 @@ pub struct Line(
 );
 
 // The same, and how many elements stand side by side in its A and B: as many as a word holds, or one where an element takes two words.
-#[derive(Drop)]
+#[derive(Clone, Copy)]
 struct Sided(Line, u16);
 
 // The table, a line a kind. The lines stand in branches of a `match`, which the compiler lays into constant memory: a constant array it would
@@ -131,7 +134,7 @@ fn line_at(number: usize) -> Sided
 }
 
 // A line with its columns named.
-#[derive(Drop)]
+#[derive(Clone, Copy)]
 pub struct Entry {
     pub m: u16,
     pub n: u16,
@@ -195,7 +198,7 @@ impl Entry {
 
 // How one kind and role lies in a warp: bits of an element and words of a lane; elements side by side, halves of eight rows, spans of
 // four times side columns; turned where the major number is the column, as in B.
-#[derive(Drop)]
+#[derive(Clone, Copy)]
 pub struct Layout {
     pub bits: usize,
     pub words: usize,
@@ -205,7 +208,7 @@ pub struct Layout {
     pub turned: bool,
 }
 
-#[derive(Drop)]
+#[derive(Clone, Copy)]
 pub enum Known {
     As(Layout),
     Refused(Refusal),
@@ -265,7 +268,7 @@ impl Layout {
 }
 
 // The layouts of a kind's A, B and C.
-#[derive(Drop)]
+#[derive(Clone, Copy)]
 pub struct Layouts {
     pub a: Layout,
     pub b: Layout,

@@ -38,6 +38,7 @@ pub fn multiple(by: usize, n: usize) -> usize
 }
 
 // The major and the minor number of an element.
+#[tactic(auto, unfolding(crate::specs::Rule::major))]
 pub fn across(side: usize, halves: usize, lane: Lane, element: Element) -> usize
     requires { (0 < side) × (0 < halves) × (halves ≤ 2) × (lane.0 < lanes) }
     ensures is { result ≡ major side halves lane.0 element.0 }
@@ -48,6 +49,7 @@ pub fn across(side: usize, halves: usize, lane: Lane, element: Element) -> usize
     remainder(halves, i / side) * 8 + l / Lane::QUAD
 }
 
+#[tactic(auto, unfolding(crate::specs::Rule::minor))]
 pub fn along(side: usize, halves: usize, lane: Lane, element: Element) -> usize
     requires { (0 < side) × (side ≤ 32) × (0 < halves) × (halves ≤ 2) × (element.0 ≤ 128) }
     ensures is { result ≡ minor side halves lane.0 element.0 }
@@ -59,6 +61,7 @@ pub fn along(side: usize, halves: usize, lane: Lane, element: Element) -> usize
 }
 
 // The lane and the element of a major number x and a minor number y.
+#[tactic(auto, unfolding(crate::specs::Rule::lane_of))]
 pub fn lane_at(side: usize, x: usize, y: usize) -> usize
     requires { 0 < side }
     ensures is { result ≡ lane_of side x y }
@@ -67,6 +70,7 @@ pub fn lane_at(side: usize, x: usize, y: usize) -> usize
     x % 8 * Lane::QUAD + y / side % Lane::QUAD
 }
 
+#[tactic(auto, unfolding(crate::specs::Rule::element_of))]
 pub fn element_at(side: usize, halves: usize, x: usize, y: usize) -> usize
     requires { (0 < side) × (side ≤ 32) × (halves ≤ 2) × (x ≤ 16) × (y ≤ 256) }
     ensures is { result ≡ element_of side halves x y }

@@ -1,12 +1,13 @@
 // Reads records of four bytes from standard input and prints a line for each: the program of document 01. What it prints for
 // which bytes is `lookup_text::put_lines`; here bytes are only moved, and what fails is said on standard error.
+#![tactic(auto)]
 ghost use Rattle.std.specs.Prelude.{◌≡◌, ◌%◌, length};
 ghost use Rattle.io.specs.Counts.{IsPrefixLen};
 
 use libc::{STDERR_FILENO, STDIN_FILENO, STDOUT_FILENO};
 
 // What a read brought: so many bytes, none at the end of the input or where it failed.
-#[derive(Drop)]
+#[derive(Clone, Copy)]
 struct Came {
     bytes: usize,
     failed: bool,

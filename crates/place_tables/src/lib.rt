@@ -1,4 +1,6 @@
 // The tables of the busiest layout, kind 5's A: the place of each element, and the reverse.
+#![tactic(auto)]
+
 ghost use Rattle.std.specs.Prelude.{◌≡◌, ◌<◌, get_or};
 ghost use Rattle.place_tables.specs.Tables.{entries, place_table, holder_table};
 

@@ -1,4 +1,5 @@
 // The place of an element, and the reverse question.
+#![tactic(auto)]
 ghost use Rattle.std.specs.Prelude.{◌≡◌, ◌<◌};
 ghost use Rattle.answers.specs.Promised.{Tells, Replies};
 ghost use Rattle.kinds.specs.Places.{word_within, lowest_bit};
@@ -10,13 +11,13 @@ ghost use Rattle.places.specs.Workers.{place_call_in, find_call_in, tabled};
 use answers::Refusal;
 use kinds::{Bit, Column, Element, Kind, Known, Lane, Layout, Role, Row, Spot, Word};
 
-#[derive(Drop)]
+#[derive(Clone, Copy)]
 pub enum Placed {
     At(Row, Column, Word, Bit),
     Refused(Refusal),
 }
 
-#[derive(Drop)]
+#[derive(Clone, Copy)]
 pub enum Held {
     By(Lane, Element),
     Refused(Refusal),

@@ -1,4 +1,5 @@
 // Step records, as the card's logger writes them: 1,800 bytes with kind, signs, mode, five reserved bytes, then the words of A, B, C and D.
+#![tactic(auto)]
 ghost use Rattle.std.specs.Prelude.{◌≡◌, ◌+◌, ◌*◌, ◌^◌, ◌≤◌, length, drop};
 ghost use Rattle.answers.specs.Promised.{Replies, Tells};
 ghost use Rattle.kinds.specs.Kinds.{entry_of, Arithmetic};
@@ -61,7 +62,7 @@ pub fn read_words(bytes: &[u8], words: &mut [u32])
 }
 
 // The kind and the selectors of a record, with the mode that it asks for.
-#[derive(Drop)]
+#[derive(Clone, Copy)]
 pub struct Header {
     pub kind: Kind,
     pub signs: Signs,

@@ -1,4 +1,5 @@
 // What the replay program prints for its input: a line for each step record, by the D that it ought to have.
+#![tactic(auto)]
 ghost use Rattle.std.specs.Prelude.{◌≡◌, ◌+◌, ◌*◌, ◌^◌, ◌<◌, ◌≤◌, length, take};
 ghost use Rattle.answers.specs.Refusals.{given};
 ghost use Rattle.answers.specs.Promised.{Replies};
@@ -18,7 +19,7 @@ use records::Header;
 use step::Selected;
 
 // The verdict of a record: its D is right, or wrong, first at a row and a column, or the record is refused.
-#[derive(Drop)]
+#[derive(Clone, Copy)]
 pub enum Replayed {
     Right,
     Wrong(Row, Column),

@@ -1,5 +1,6 @@
 // Runs of steps: opened from a C buffer, fed blocks of A and B, read into a D buffer, and marked where a sum was cut off. A run goes in and comes back
 // by value.
+#![tactic(auto)]
 ghost use Rattle.std.specs.Prelude.{◌≡◌, ◌*◌, ◌<◌, ◌≤◌, length, [], ◌∷◌};
 ghost use Rattle.answers.specs.Tests.{differs};
 ghost use Rattle.answers.specs.Calls.{◌when◌, ◌at◌when◌};
@@ -16,7 +17,7 @@ use buffers::Lengths;
 use kinds::{Entry, Kind, Mode, Signs};
 use step::Selected;
 
-#[derive(Drop)]
+#[derive(Clone, Copy)]
 pub struct Run {
     pub kind: Kind,
     pub signs: Signs,
@@ -27,7 +28,7 @@ pub struct Run {
 }
 
 // A run handed back with the answer of the call.
-#[derive(Drop)]
+#[derive(Clone, Copy)]
 pub struct Handed {
     pub run: Run,
     pub verdict: Verdict,

@@ -1,4 +1,5 @@
 // Scale bytes: the choice of bytes by the selectors, the look for 255, and their reading as exponents.
+#![tactic(auto)]
 ghost use Rattle.std.specs.Prelude.{◌≡◌, map, ◌+◌, ◌<◌, ◌≤◌, length, get_or};
 ghost use Rattle.kinds.specs.Kinds.{lanes};
 ghost use Rattle.answers.specs.Tests.{Says, first_of};
@@ -18,16 +19,16 @@ const NAN: u8 = 255;
 const LONGEST: usize = 64;
 
 // Each selector has its own type, so that none stands in for another. Any u32 may stand in it: what is illegal is refused.
-#[derive(Drop)]
+#[derive(Clone, Copy)]
 pub struct Size(pub u32);
 
-#[derive(Drop)]
+#[derive(Clone, Copy)]
 pub struct Side(pub u32);
 
-#[derive(Drop)]
+#[derive(Clone, Copy)]
 pub struct ByteId(pub u32);
 
-#[derive(Drop)]
+#[derive(Clone, Copy)]
 pub struct ThreadId(pub u32);
 
 impl Size {

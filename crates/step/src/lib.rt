@@ -1,4 +1,5 @@
 // One multiply step on warp buffers: D is C plus A times B, in the arithmetic kinds.
+#![tactic(auto)]
 ghost use Rattle.std.specs.Prelude.{◌≡◌};
 ghost use Rattle.kinds.specs.Kinds.{entry_of};
 ghost use Rattle.answers.specs.Promised.{Meets, Replies, Judges};
@@ -11,7 +12,7 @@ use buffers::Lengths;
 use kinds::{Entry, Kind, Mode, Signs};
 
 // The line of a kind whose selectors were judged.
-#[derive(Drop)]
+#[derive(Clone, Copy)]
 pub enum Selected {
     As(Entry),
     Refused(Refusal),

@@ -1,4 +1,5 @@
 // D at one place: C's word and the exact sum there, wrapped or clamped once, and a mark where the clamp cut something off.
+#![tactic(auto)]
 ghost use Rattle.std.specs.Prelude.{◌≡◌, ◌<◌, ◌≤◌, length};
 ghost use Rattle.std.proofs.Math.IntN.{sub_ℕ};
 ghost use Rattle.step_limit.specs.Limits.{cell_of, mark_of};
@@ -7,7 +8,7 @@ ghost use Rattle.step_limit.specs.Workers.{with_mark};
 use kinds::Mode;
 
 // A word of D, and 1 where the exact result lay outside 32 bits.
-#[derive(Drop)]
+#[derive(Clone, Copy)]
 pub struct Cell {
     pub word: u32,
     pub mark: u32,

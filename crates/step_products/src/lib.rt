@@ -1,5 +1,6 @@
 // The eight-bit kinds, one multiply a product, and what the four-bit kinds have of them: a side's digits, and their sums in two naturals. With digits that
 // stand too high by ha and hb, the sum of the products is (the sum of the digits' products + n ha hb) - (ha times the sum of B's digits + hb times the sum of A's).
+#![tactic(auto)]
 ghost use Rattle.std.specs.Prelude.{◌≡◌, false, ◌⊎◌, ◌+◌, ◌*◌, ◌-◌, ◌/◌, ◌%◌, ◌^◌, ◌<◌, ◌≤◌, length, get_or};
 ghost use Rattle.laws.specs.Fields.{field, joined};
 ghost use Rattle.laws.specs.Toward.{stores, Brings, Below, At};
@@ -11,21 +12,21 @@ ghost use Rattle.step_products.specs.Sums.{Dots, straight, masked, Digits, Digit
 use kinds::{Element, Lane, Layout, Layouts, Mode};
 
 // How far the digits of A and of B stand too high.
-#[derive(Drop)]
+#[derive(Clone, Copy)]
 pub struct Offsets {
     pub a: u32,
     pub b: u32,
 }
 
 // A number as the difference of two.
-#[derive(Drop)]
+#[derive(Clone, Copy)]
 pub struct Split {
     pub plus: u32,
     pub minus: u32,
 }
 
 // Of two rows of digits: the sum of their products, and the sum of each.
-#[derive(Drop)]
+#[derive(Clone, Copy)]
 pub struct Dot {
     pub products: u32,
     pub a: u32,

@@ -1,4 +1,5 @@
 // What the programs on files share: bytes that come through a descriptor, and the file that an argument names.
+#![tactic(auto)]
 ghost use Rattle.std.specs.Prelude.{◌≡◌, ◌+◌, ◌-◌, ◌^◌, ◌<◌, ◌≤◌, length, take};
 ghost use Rattle.io.specs.Counts.{IsPrefixLen};
 ghost use Rattle.stream.specs.Moved.{moved};
@@ -7,7 +8,7 @@ use libc::STDIN_FILENO;
 
 // What a read brought: so many bytes, none at the end of the input or where it failed, and how many the buffer holds now. Why a read failed is
 // errno's until the next call of C.
-#[derive(Drop)]
+#[derive(Clone, Copy)]
 pub struct Came {
     pub bytes: usize,
     pub held: usize,
@@ -51,7 +52,7 @@ pub fn keep(input: &mut [u8], from: usize, until: usize)
 }
 
 // An input, and how many bytes name it; the descriptor is negative where it could not be opened, which was said on standard error.
-#[derive(Drop)]
+#[derive(Clone, Copy)]
 pub struct Opened {
     pub fd: i32,
     pub named: usize,

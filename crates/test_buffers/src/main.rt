@@ -1,5 +1,6 @@
 // Words of a fixed pattern are unpacked and packed again, for every kind and role, and written to a template record and read back; then the
 // same with lengths, kinds, roles and entries that are refused. A line each, for an operator to read.
+#![tactic(auto)]
 use answers::Verdict;
 use kinds::{Kind, Role};
 use test_print::{print_number, print_text, print_verdict};
@@ -105,11 +106,11 @@ fn template_refusals() {
 }
 
 // A kind and a role with so many words and so many entries.
-#[derive(Drop)]
+#[derive(Clone, Copy)]
 struct Case(u32, u32, usize, usize);
 
 // An entry put at two indices before packing, or none where it is 0.
-#[derive(Drop)]
+#[derive(Clone, Copy)]
 struct Spoiled(u64, usize, usize);
 
 fn round(kind: u32, role: u32, n: usize, entries: usize) {

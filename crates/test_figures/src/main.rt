@@ -1,5 +1,6 @@
 // Works out document 01's bench figures on places and steps through the public calls, in the paper's order, one of them by the plain step too; then
 // figures of document 02's kinds 11 to 14, and of its words and bits.
+#![tactic(auto)]
 use answers::Verdict;
 use kinds::{Column, Element, Kind, Lane, Mode, Role, Row, Signs};
 use places::{Held, Placed};

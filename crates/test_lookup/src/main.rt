@@ -1,5 +1,6 @@
 // What lookup prints at the corners: every kind 0 to 15 and role 0 to 3, with lanes 0, 31 and 32 and elements 0, the last, the next
 // and 255, each line after its record's four numbers.
+#![tactic(auto)]
 ghost use Rattle.std.specs.Prelude.{◌<◌};
 
 use test_print::{print_number, print_text};

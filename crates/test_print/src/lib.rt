@@ -1,4 +1,5 @@
 // What the test programs print to standard output.
+#![tactic(auto)]
 ghost use Rattle.std.specs.Prelude.{◌≡◌, ℕ, ◌<◌, ◌≤◌, length, get_or};
 
 use answers::{Refusal, Verdict};

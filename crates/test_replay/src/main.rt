@@ -1,5 +1,6 @@
 // What replay prints where the numbers leave 32 bits, and up to the last that it prints: for two step records, of which the second is wrong at row
 // 8, column 0, and for a part of a third nothing.
+#![tactic(auto)]
 ghost use Rattle.std.specs.Prelude.{◌+◌, ◌^◌, ◌<◌};
 
 use test_print::print_text;

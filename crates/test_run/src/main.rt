@@ -1,5 +1,6 @@
 // Shows runs: document 01's figures over 4,096 blocks, the most ones of document 02's kind 14, a clamped run in two orders, document 02's
 // marks, runs made up by hand, and each refusal.
+#![tactic(auto)]
 use answers::Verdict;
 use kinds::{Kind, Mode, Signs};
 use run::Run;

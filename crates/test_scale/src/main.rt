@@ -1,4 +1,5 @@
 // Shows what `scale` answers: the figures of document 01 and of byte 255, whole outputs of each side and size, and each refusal.
+#![tactic(auto)]
 use answers::Verdict;
 use scale::{ByteId, Side, Size, ThreadId};
 use test_print::{print_number, print_refusal, print_signed, print_text};
@@ -37,7 +38,7 @@ fn print_side(side: u32) {
 }
 
 // A call's size, side, byte-id and thread-id.
-#[derive(Drop)]
+#[derive(Clone, Copy)]
 struct Selectors(u32, u32, u32, u32);
 
 fn print_selectors(selectors: Selectors) {

@@ -1,4 +1,5 @@
 // Bytes put into a buffer: a text, a number in decimal, and the line of a refusal. Each function puts into out at a place, and answers the place after it.
+#![tactic(auto)]
 ghost use Rattle.std.specs.Prelude.{[], ◌∷◌, ◌+◌, ◌<◌, ◌≤◌, length};
 ghost use Rattle.text.specs.Text.{decimal, space, refused_line, Put};
 

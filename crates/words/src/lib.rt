@@ -1,4 +1,5 @@
 // An answer and a run as the words that C gets: the code of a verdict, a place, a pair, and the 136 words of a run.
+#![tactic(auto)]
 ghost use Rattle.std.specs.Prelude.{◌≡◌, ◌+◌, ◌*◌, ◌^◌, ◌≤◌, [], ◌∷◌, length, drop};
 ghost use Rattle.answers.specs.Refusals.{number_of, detail_of, told, after};
 ghost use Rattle.answers.specs.Promised.{code_of};
