@@ -1,10 +1,7 @@
 -- Eight fields of nought, or of the sign bit. Assumes nothing.
-use mathlib.Core.Path.{◌≡◌, sym, ap}
-use mathlib.Core.Logic.{◌⊎◌, inl, inr}
-use Prim.Native.Nat.{ℕ}
+use Rattle.std.proofs.Common.{◌≡◌, ℕ, ◌⊎◌, inl, inr, sym, ap}
 use Rattle.laws.specs.Fields.{joined}
-use Rattle.step_nibbles.proofs.mask_of.Statement.{statement}
-use Rattle.step_nibbles.proofs.mask_of.Tie as tie
+use Rattle.step_nibbles.proofs.mask_of.Goals as goal
 
 none : (o : ℕ) → o ≡ 0 → 0 ≡ joined 4 8 (λ j. o)
 unfolding joined
@@ -15,11 +12,8 @@ unfolding joined
 signs o n (inl e) = absurd (n e)
 signs o n (inr e) = sym (ap (λ (o : ℕ). joined 4 8 (λ j. o)) e)
 
-returns : tie.Need-returns
-returns c = none _ c.if1.true
+pub returns-then-offset-eq0 : goal.returns-then-offset-eq0
+returns-then-offset-eq0 c = none _ c.if-offset-eq0.true
 
-returns-2 : tie.Need-returns-2
-returns-2 c = signs _ c.if1.false c.before.requires
-
-pub mask-of-spec : {M : Type 1} → statement M
-mask-of-spec = tie.close (tie.spec returns returns-2)
+pub returns : goal.returns
+returns c = signs _ c.if-offset-eq0.false c.requires
