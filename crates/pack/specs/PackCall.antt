@@ -16,7 +16,7 @@ abbrev pub matrix_refusals : (matrix : List ℕ) (entries words needed bits : �
 matrix_refusals matrix entries words needed b =
     5 at 0 when differs (length matrix) entries
     ∷ 5 at 1 when differs words needed
-    ∷ 7 at-first-below length matrix when too_wide b matrix
+    ∷ 7 at_first_below length matrix when too_wide b matrix
     ∷ []
 
 abbrev pub pack_call : (kind role : ℕ) (matrix words : List ℕ) → Call (List ℕ)
