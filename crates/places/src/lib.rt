@@ -1,5 +1,6 @@
 // The place of an element, and the reverse question.
 #![tactic(auto)]
+
 ghost use Rattle.std.specs.Prelude.{◌≡◌, ◌<◌};
 ghost use Rattle.answers.specs.Promised.{Tells, Replies};
 ghost use Rattle.kinds.specs.Places.{word_within, lowest_bit};

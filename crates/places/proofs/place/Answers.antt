@@ -1,0 +1,15 @@
+-- Where the table does not answer, the layout was given or refused; either way the place's answer follows from it. Assumes nothing.
+use Rattle.std.proofs.Common.{◌∙◌}
+use Rattle.answers.proofs.Shows.{replies}
+use Rattle.answers.proofs.Demand1.{reply_is}
+use Rattle.places.specs.PlaceCalls.{place_answer}
+use Rattle.kinds.proofs.Judged.{known_sane}
+use Rattle.places.proofs.ByRule.{known_placed}
+use Rattle.places.proofs.place.Goals as goal
+
+pub place_in-requires : goal.place_in-requires
+place_in-requires c = known_sane _ _ _ c.layout_of.ensures _ c.in-As.is
+
+pub returns-in-As : goal.returns-in-As
+unfolding place_answer
+returns-in-As c = replies (reply_is c.place_in.ensures ∙ known_placed _ _ _ c.layout_of.ensures _ c.in-As.is c.args.lane.0 c.args.element.0)

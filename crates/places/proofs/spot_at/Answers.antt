@@ -1,0 +1,10 @@
+-- The element is one of the lane's, of which there are at most 128. Assumes nothing.
+use Rattle.std.proofs.Common.{arith}
+use Rattle.kinds.proofs.Digits.{element_lt}
+use Rattle.places.proofs.spot_at.Goals as goal
+
+pub of-requires : goal.of-requires
+of-requires c =
+    let f = c.args.f in
+    let ok = c.requires.0 in
+    (ok.width.le, omega (arith, element_lt f.side f.halves ok.side_pos ok.halves_pos f.spans c.args.x c.args.y c.requires.1 c.requires.2, ok.elements_le, c.element_at-i.ensures.is))
