@@ -1,6 +1,7 @@
 // Runs of steps: opened from a C buffer, fed blocks of A and B, read into a D buffer, and marked where a sum was cut off. A run goes in and comes back
 // by value.
 #![tactic(auto)]
+
 ghost use Rattle.std.specs.Prelude.{◌≡◌, ◌*◌, ◌<◌, ◌≤◌, length, [], ◌∷◌};
 ghost use Rattle.answers.specs.Tests.{differs};
 ghost use Rattle.answers.specs.Calls.{◌when◌, ◌at◌when◌};
