@@ -1,5 +1,6 @@
 // What a warp buffer and a matrix buffer hold: the definitions and laws of unpacking and packing, and what the two calls share.
 #![tactic(auto)]
+
 ghost use Rattle.std.specs.Prelude.{◌≡◌, ◌+◌, ◌*◌, ◌<◌, ◌≤◌, length};
 ghost use Rattle.laws.specs.Fields.{field};
 ghost use Rattle.kinds.specs.Kinds.{lanes, entry_of};

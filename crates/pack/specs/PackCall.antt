@@ -3,7 +3,7 @@ use Rattle.std.specs.Prelude.{ℕ, ◌^◌, List, [], ◌∷◌, length, get_or}
 use Rattle.answers.specs.Refusals.{Answer}
 use Rattle.answers.specs.Tests.{Test, reaches, differs}
 use Rattle.answers.specs.Calls.{Line, ◌at◌when◌, ◌at_first_below◌when◌, ◌then◌, Call, judgement}
-use Rattle.kinds.specs.Kinds.{bits, bits_at}
+use Rattle.kinds.specs.Kinds.{bits_at}
 use Rattle.kinds.specs.Refusals.{layout_refusals}
 use Rattle.buffers.specs.Buffers.{words_needed, entries_needed, packed_of}
 
@@ -16,7 +16,7 @@ abbrev pub matrix_refusals : (matrix : List ℕ) (entries words needed bits : �
 matrix_refusals matrix entries words needed b =
     5 at 0 when differs (length matrix) entries
     ∷ 5 at 1 when differs words needed
-    ∷ 7 at-first-below length matrix when too_wide b matrix
+    ∷ 7 at_first_below length matrix when too_wide b matrix
     ∷ []
 
 abbrev pub pack_call : (kind role : ℕ) (matrix words : List ℕ) → Call (List ℕ)
