@@ -57,7 +57,7 @@ def declared():
 
 
 # A lemma that would have its function's name; a name of one file that would fall together with one that it imports.
-LEMMAS = """accepted-of by-rule clamped-each digits-mark digits-word element-in entries-needed entry-at fed-words first-true holder-entry holder-table mark-at
+LEMMAS = """accepted-of by-rule in-a-row not-a-number clamped-each digits-mark digits-word element-in entries-needed entry-at fed-words first-true holder-entry holder-table mark-at
 mark-from mark-words output-length place-entry place-in place-table record-at result-at sum-bits word-at words-needed""".split()
 LOCAL = [
     ("replay_text/proofs/Compared.antt", "differs_at", "differing"),
@@ -77,6 +77,8 @@ def pairs():
         new = name.replace("-", "_") + "_lem" if name in LEMMAS else snake(name)
         if new != name:
             found[name] = new
+            # the words of an operator stand apart where it is used
+            found.update((x, y) for x, y in zip(name.split("◌"), new.split("◌")) if x != y)
     return found
 
 

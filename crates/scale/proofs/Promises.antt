@@ -82,8 +82,8 @@ module _ (size side byteId threadId : ℕ) (metadata : List ℕ) (output : List 
         back q = let none = subst NoneBefore (sym (as_long q.0)) q.1 in search (q.0, none)
 
     -- 'Refusals: 12, with the output index of the first such byte, after 8 and 5';
-    pub not_a_number : (d : ℕ) → (told verdict ≡ refusal 12 d) ↔ (LegalCall × (d < length output) × (byte_for d ≡ 255) × NoneBefore d)
-    not_a_number d = (λ e. there (after.0 ((verdict_refused_when m 12 d).0 e)), λ q. (verdict_refused_when m 12 d).1 (after.1 (back q)))
+    pub not_a_number_lem : (d : ℕ) → (told verdict ≡ refusal 12 d) ↔ (LegalCall × (d < length output) × (byte_for d ≡ 255) × NoneBefore d)
+    not_a_number_lem d = (λ e. there (after.0 ((verdict_refused_when m 12 d).0 e)), λ q. (verdict_refused_when m 12 d).1 (after.1 (back q)))
       where
         legal : List Line
         legal = legal_refusals size side byteId threadId (length metadata) (length output)

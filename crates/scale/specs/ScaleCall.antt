@@ -22,7 +22,7 @@ not_a_number byte = is byte 255
 
 -- 255 in a chosen byte; the chosen bytes stand in the output's order
 abbrev pub byte_refusals : (chosen : List ℕ) → List Line
-byte_refusals chosen = 12 at-first-below length chosen when (λ i. not_a_number (get_or chosen i 0)) ∷ []
+byte_refusals chosen = 12 at_first_below length chosen when (λ i. not_a_number (get_or chosen i 0)) ∷ []
 
 abbrev pub scale_call : (size side byteId threadId : ℕ) (metadata : List ℕ) (output : List ℤ) → Call (List ℤ)
 scale_call size side byteId threadId metadata output = record {

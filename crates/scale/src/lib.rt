@@ -1,5 +1,6 @@
 // Scale bytes: the choice of bytes by the selectors, the look for 255, and their reading as exponents.
 #![tactic(auto)]
+
 ghost use Rattle.std.specs.Prelude.{◌≡◌, map, ◌+◌, ◌<◌, ◌≤◌, length, get_or};
 ghost use Rattle.kinds.specs.Kinds.{lanes};
 ghost use Rattle.answers.specs.Tests.{Says, first_of};
