@@ -151,7 +151,8 @@ def main():
         return
     changed = 0
     for path, old, new in LOCAL:
-        change("crates/" + path, in_tokens(read("crates/" + path), {old: new}))
+        if os.path.exists("crates/" + path):
+            change("crates/" + path, in_tokens(read("crates/" + path), {old: new}))
     move()
     for path in sorted(glob.glob("crates/*/**/*", recursive=True)):
         if path.endswith(".antt"):

@@ -1,43 +1,61 @@
 // Reads records of four bytes from standard input and prints a line for each: the program of document 01. What it prints for
 // which bytes is `lookup_text::put_lines`; here bytes are only moved, and what fails is said on standard error.
 #![tactic(auto)]
+
 ghost use Rattle.std.specs.Prelude.{◌≡◌, ◌%◌, length};
-ghost use Rattle.io.specs.Counts.{IsPrefixLen};
+ghost use Rattle.std.specs.Counts.{IsPrefixLen};
 
-use libc::{STDERR_FILENO, STDIN_FILENO, STDOUT_FILENO};
+use std::io::{Print, Read};
+use std::process::ExitCode;
+use std::{env, fmt, io};
 
-// What a read brought: so many bytes, none at the end of the input or where it failed.
-#[derive(Clone, Copy)]
-struct Came {
-    bytes: usize,
-    failed: bool,
+// What ended the program before its input did.
+#[derive(Drop)]
+enum Failed {
+    Arguments(io::Error),
+    Input(io::Error),
+    Output(io::Error),
 }
 
-fn read_once(input: &mut [u8]) -> Came
+impl fmt::Display for Failed {
+    fn fmt<W: fmt::Write>(&self, f: &mut fmt::Formatter<W>) -> fmt::Result {
+        match self {
+            Failed::Arguments(e) => write!(f, "arguments: {e}"),
+            Failed::Input(e) => write!(f, "standard input: {e}"),
+            Failed::Output(e) => write!(f, "standard output: {e}"),
+        }
+    }
+}
+
+// What a read brought: so many bytes, none at the end of the input or where it failed, and why it failed.
+#[derive(Drop)]
+struct Came {
+    bytes: usize,
+    failed: Option<io::Error>,
+}
+
+fn read_once(from: &mut impl Read, input: &mut [u8]) -> Came
     ensures { IsPrefixLen result.bytes input.new }
 {
-    let got = libc::read(STDIN_FILENO, input);
-    let bytes = io::count(got, input);
-    if got < 0 {
-        os::fail(b"lookup: standard input");
-        return Came {
+    match from.read(input) {
+        Ok(bytes) => Came {
             bytes,
-            failed: true,
-        };
-    }
-    Came {
-        bytes,
-        failed: false,
+            failed: None,
+        },
+        Err(e) => Came {
+            bytes: 0,
+            failed: Some(e),
+        },
     }
 }
 
 // The rest of a record that has begun.
-fn read_rest(input: &mut [u8]) -> Came
+fn read_rest(from: &mut impl Read, input: &mut [u8]) -> Came
     ensures { IsPrefixLen result.bytes input.new }
 {
     let mut at = 0;
     while at < input.len() {
-        let came = read_once(&mut input[at..]);
+        let came = read_once(from, &mut input[at..]);
         if came.bytes == 0 {
             return Came {
                 bytes: at,
@@ -48,20 +66,20 @@ fn read_rest(input: &mut [u8]) -> Came
     }
     Came {
         bytes: at,
-        failed: false,
+        failed: None,
     }
 }
 
 // Reads once, and waits for the rest of a record that has begun.
-fn read_some(input: &mut [u8]) -> Came
+fn read_some(from: &mut impl Read, input: &mut [u8]) -> Came
     requires { length input.old % 4 ≡ 0 }
     ensures { IsPrefixLen result.bytes input.new }
 {
-    let first = read_once(input);
+    let first = read_once(from, input);
     let begun = first.bytes;
     let missing = (4 - begun % 4) % 4;
     let whole = begun + missing;
-    let rest = read_rest(&mut input[begun..whole]);
+    let rest = read_rest(from, &mut input[begun..whole]);
     Came {
         bytes: begun + rest.bytes,
         failed: rest.failed,
@@ -69,57 +87,64 @@ fn read_some(input: &mut [u8]) -> Came
 }
 
 // The bytes that lines are printed for: all that came, or the whole records alone where the rest of one could not be read.
-fn told(came: Came, input: &[u8]) -> usize
-    requires { IsPrefixLen came.bytes input.now }
+fn told(came: &Came, input: &[u8]) -> usize
+    requires { IsPrefixLen came.now.bytes input.now }
     ensures { IsPrefixLen result input.now }
 {
     let n = came.bytes;
-    if came.failed {
+    if came.failed.is_some() {
         return n - n % 4;
     }
     n
 }
 
 // There is more to come after whole records only: one that is short stands at the end of the input.
-fn goes_on(came: Came) -> bool {
-    if came.failed {
-        return false;
+fn goes_on(came: Came) -> Result<bool, Failed> {
+    if let Some(e) = came.failed {
+        return Err(Failed::Input(e));
     }
     if came.bytes == 0 {
-        return false;
+        return Ok(false);
     }
-    came.bytes % 4 == 0
+    Ok(came.bytes % 4 == 0)
 }
 
 // One read and its lines; the answer is whether to go on.
-fn turn() -> bool {
+fn turn(rt: &impl Print, from: &mut impl Read) -> Result<bool, Failed> {
     let mut input = [0u8; 16384];
     let mut output = [0u8; 65536];
-    let came = read_some(&mut input);
-    let n = told(came, &input);
+    let came = read_some(from, &mut input);
+    let n = told(&came, &input);
     let end = lookup_text::put_lines(&input[..n], &mut output);
-    if !io::write_all(STDOUT_FILENO, &output[..end]) {
-        os::fail(b"lookup: standard output");
-        return false;
-    }
+    rt.write_all(&output[..end]).map_err(Failed::Output)?;
     goes_on(came)
 }
 
-// A proved loop has to end, and nothing says that an input does: the turns are counted down from a number that no run uses up.
-fn answer_all() {
-    let mut turns = u64::MAX;
-    while turns > 0 && turn() {
-        turns -= 1;
+// A proved loop has to end, and nothing says that an input does: no run uses up so many turns.
+fn answer_all(rt: &impl Print, from: &mut impl Read) -> Result<(), Failed> {
+    for _ in 0..u64::MAX {
+        if !turn(rt, from)? {
+            break;
+        }
     }
+    Ok(())
 }
 
-fn main() {
-    if os::arg_count() > 1 {
-        io::write_all(
-            STDERR_FILENO,
-            b"usage: lookup (records of four bytes on standard input)\n",
-        );
-        return;
+fn lookup(rt: &HostRuntime) -> Result<(), Failed> {
+    let arguments = env::args(rt).map_err(Failed::Arguments)?;
+    if arguments.len() > 1 {
+        let _ = rt.eprintln("usage: lookup (records of four bytes on standard input)");
+        return Ok(());
     }
-    answer_all();
+    answer_all(rt, &mut rt.stdin())
+}
+
+fn main(rt: HostRuntime) -> ExitCode {
+    match lookup(&rt) {
+        Ok(()) => ExitCode::SUCCESS,
+        Err(e) => {
+            let _ = rt.eprintln(format_args!("lookup: {e}"));
+            ExitCode::FAILURE
+        }
+    }
 }

@@ -1,5 +1,6 @@
 // What the lookup program prints for its input: a line for each record of four bytes.
 #![tactic(auto)]
+
 ghost use Rattle.std.specs.Prelude.{◌≡◌, ◌∷◌, ◌+◌, ◌*◌, ◌/◌, ◌<◌, ◌≤◌, length, take};
 ghost use Rattle.answers.specs.Refusals.{given, refusal};
 ghost use Rattle.places.specs.PlaceCalls.{place_answer};

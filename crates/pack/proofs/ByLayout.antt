@@ -4,7 +4,7 @@ use mathlib.Core.List.{List}
 use Prim.Native.Nat.{ℕ}
 use lib.ListN.{length}
 use Rattle.answers.specs.Calls.{first, judgement}
-use Rattle.kinds.specs.Kinds.{bits, bits_at, Legal}
+use Rattle.kinds.specs.Kinds.{bits_at, Legal}
 use Rattle.kinds.proofs.Table.{layout_at, bits_are}
 use Rattle.kinds.proofs.Judged.{judged_is}
 use Rattle.buffers.specs.Buffers.{words_needed, entries_needed}

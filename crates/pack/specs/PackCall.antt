@@ -3,7 +3,7 @@ use Rattle.std.specs.Prelude.{ℕ, ◌^◌, List, [], ◌∷◌, length, get_or}
 use Rattle.answers.specs.Refusals.{Answer}
 use Rattle.answers.specs.Tests.{Test, reaches, differs}
 use Rattle.answers.specs.Calls.{Line, ◌at◌when◌, ◌at_first_below◌when◌, ◌then◌, Call, judgement}
-use Rattle.kinds.specs.Kinds.{bits, bits_at}
+use Rattle.kinds.specs.Kinds.{bits_at}
 use Rattle.kinds.specs.Refusals.{layout_refusals}
 use Rattle.buffers.specs.Buffers.{words_needed, entries_needed, packed_of}
 

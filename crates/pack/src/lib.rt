@@ -1,5 +1,6 @@
 // Packing: the row-major matrix of bit patterns to lane words.
 #![tactic(auto)]
+
 ghost use Rattle.std.specs.Prelude.{◌≡◌, ◌<◌, ◌≤◌, length};
 ghost use Rattle.kinds.specs.Workers.{Laid};
 ghost use Rattle.answers.specs.Tests.{first_of};

@@ -1,5 +1,6 @@
 // Packing's workers: lane words are filled from a matrix, stretch by stretch, quad by quad and lane by lane.
 #![tactic(auto)]
+
 ghost use Rattle.std.specs.Prelude.{◌≡◌, ℕ, ◌+◌, ◌*◌, ◌^◌, ◌<◌, ◌≤◌, length, get_or};
 ghost use Rattle.laws.specs.Fields.{joined};
 ghost use Rattle.laws.specs.Toward.{stores, Brings, Below};

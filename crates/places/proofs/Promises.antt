@@ -1,5 +1,5 @@
 -- What document 01 and demand 2 promise of places, a sentence above its statement. Assumes nothing.
-use mathlib.Core.Path.{◌≡◌, refl, sym, ap, ap₂, ◌∙◌}
+use mathlib.Core.Path.{◌≡◌, refl, sym, ap, ◌∙◌}
 use mathlib.Core.Logic.{◌↔◌}
 use Prim.Native.Nat.{ℕ, ◌<◌}
 use Rattle.kinds.specs.Kinds.{lanes, kind_of, role_of, bits_at, elements_at, Legal}

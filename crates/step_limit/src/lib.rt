@@ -1,5 +1,6 @@
 // D at one place: C's word and the exact sum there, wrapped or clamped once, and a mark where the clamp cut something off.
 #![tactic(auto)]
+
 ghost use Rattle.std.specs.Prelude.{◌≡◌, ◌<◌, ◌≤◌, length};
 ghost use Rattle.std.proofs.Math.IntN.{sub_ℕ};
 ghost use Rattle.step_limit.specs.Limits.{cell_of, mark_of};

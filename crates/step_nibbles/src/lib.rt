@@ -2,6 +2,7 @@
 // digits are laid out as four planes; under each of them A's digits are added, and the four sums are shifted and added. The exact sum is that of
 // step_products, and so is what its digits are.
 #![tactic(auto)]
+
 ghost use Rattle.std.specs.Prelude.{◌≡◌, ◌⊎◌, ◌+◌, ◌*◌, ◌-◌, ◌/◌, ◌%◌, ◌^◌, ◌<◌, ◌≤◌, length, get_or};
 ghost use Rattle.laws.specs.Fields.{joined};
 ghost use Rattle.kinds.specs.Kinds.{lanes};

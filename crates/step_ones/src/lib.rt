@@ -1,6 +1,7 @@
 // The one-bit kinds: the ones of xor or and words are counted by the language's own operation, two words at a time, a row of A beside the eight
 // columns of B. A row and a column have `spans` times four words, and A has `halves` of eight rows.
 #![tactic(auto)]
+
 ghost use Rattle.std.specs.Prelude.{◌≡◌, ℕ, ◌+◌, ◌*◌, ◌/◌, ◌%◌, ◌^◌, ◌<◌, ◌≤◌, length, get_or};
 ghost use Rattle.laws.specs.Bits.{combine, ones_in, sum_n};
 ghost use Rattle.laws.specs.Lists.{fills};

@@ -1,6 +1,7 @@
 // The eight-bit kinds, one multiply a product, and what the four-bit kinds have of them: a side's digits, and their sums in two naturals. With digits that
 // stand too high by ha and hb, the sum of the products is (the sum of the digits' products + n ha hb) - (ha times the sum of B's digits + hb times the sum of A's).
 #![tactic(auto)]
+
 ghost use Rattle.std.specs.Prelude.{◌≡◌, false, ◌⊎◌, ◌+◌, ◌*◌, ◌-◌, ◌/◌, ◌%◌, ◌^◌, ◌<◌, ◌≤◌, length, get_or};
 ghost use Rattle.laws.specs.Fields.{field, joined};
 ghost use Rattle.laws.specs.Toward.{stores, Brings, Below, At};

@@ -1,41 +1,49 @@
-// What the programs on files share: bytes that come through a descriptor, and the file that an argument names.
+// What the programs on files share: bytes that come through a reader, and the file that an argument names.
 #![tactic(auto)]
+
 ghost use Rattle.std.specs.Prelude.{◌≡◌, ◌+◌, ◌-◌, ◌^◌, ◌<◌, ◌≤◌, length, take};
-ghost use Rattle.io.specs.Counts.{IsPrefixLen};
+ghost use Rattle.std.specs.Counts.{IsPrefixLen};
 ghost use Rattle.stream.specs.Moved.{moved};
 
-use libc::STDIN_FILENO;
+use std::env::{Env, FillError};
+use std::fs::File;
+use std::io::{ErrorKind, Read, Stdin};
+use std::{io, str};
 
-// What a read brought: so many bytes, none at the end of the input or where it failed, and how many the buffer holds now. Why a read failed is
-// errno's until the next call of C.
-#[derive(Clone, Copy)]
+// What a read brought: so many bytes, none at the end of the input or where it failed, how many the buffer holds now, and why the read failed.
+#[derive(Drop)]
 pub struct Came {
     pub bytes: usize,
     pub held: usize,
-    pub failed: bool,
+    pub failed: Option<io::Error>,
 }
 
-fn read_once(fd: i32, input: &mut [u8], begun: usize) -> Came
+fn read_once(from: &mut impl Read, input: &mut [u8], begun: usize) -> Came
     requires { begun + length input.old < 2 ^ 64 }
     ensures { IsPrefixLen result.bytes input.new × (result.held ≡ begun + result.bytes) }
 {
-    let got = libc::read(fd, input);
-    let bytes = io::count(got, input);
-    Came {
-        bytes,
-        held: begun + bytes,
-        failed: got < 0,
+    match from.read(input) {
+        Ok(bytes) => Came {
+            bytes,
+            held: begun + bytes,
+            failed: None,
+        },
+        Err(e) => Came {
+            bytes: 0,
+            held: begun,
+            failed: Some(e),
+        },
     }
 }
 
 // One read, behind the bytes that have come of a record that has begun, which stay.
-pub fn read_behind(fd: i32, input: &mut [u8], begun: usize) -> Came
+pub fn read_behind(from: &mut impl Read, input: &mut [u8], begun: usize) -> Came
     requires { begun ≤ length input.old }
     ensures prefix_len { IsPrefixLen result.held input.new }
     ensures held_value { result.held ≡ begun + result.bytes }
     ensures input_unchanged { take begun input.new ≡ take begun input.old }
 {
-    read_once(fd, &mut input[begun..], begun)
+    read_once(from, &mut input[begun..], begun)
 }
 
 // Moves the bytes from one place on until another to the start of the buffer: those of a record that has begun, for the next read to go on behind.
@@ -51,47 +59,69 @@ pub fn keep(input: &mut [u8], from: usize, until: usize)
     }
 }
 
-// An input, and how many bytes name it; the descriptor is negative where it could not be opened, which was said on standard error.
-#[derive(Clone, Copy)]
+// Where records come from.
+#[derive(Drop)]
+pub enum Source {
+    Standard(Stdin),
+    File(File),
+}
+
+impl Read for Source {
+    fn read(&mut self, buf: &mut [u8]) -> io::Result<usize> {
+        match self {
+            Source::Standard(stdin) => stdin.read(buf),
+            Source::File(file) => file.read(buf),
+        }
+    }
+}
+
+// An input, or why it could not be opened, and how many bytes name it.
+#[derive(Drop)]
 pub struct Opened {
-    pub fd: i32,
+    pub source: io::Result<Source>,
     pub named: usize,
 }
 
-fn standard_input(what: &mut [u8], at: usize) -> Opened
+fn standard_input(rt: &HostRuntime, what: &mut [u8], at: usize) -> Opened
     requires { at + 4096 ≤ length what.old }
     ensures { IsPrefixLen result.named what.new }
 {
     let named = text::put_text(what, at, b"standard input");
     Opened {
-        fd: STDIN_FILENO,
+        source: Ok(Source::Standard(rt.stdin())),
         named,
+    }
+}
+
+// The library names files by text.
+fn open_file(rt: &HostRuntime, name: &[u8]) -> io::Result<Source> {
+    match str::from_utf8(name) {
+        Ok(path) => Ok(Source::File(File::open(rt, path)?)),
+        Err(_) => Err(io::Error::from(ErrorKind::InvalidFilename)),
     }
 }
 
 // Opens the file that an argument names, or standard input where it is missing or `-`. The name is put into `what`, behind what stands before `at`. Of
 // a name that is longer than any file's only the first bytes are there to be said.
-pub fn open_argument(i: usize, what: &mut [u8], at: usize) -> Opened
+pub fn open_argument(rt: &HostRuntime, i: usize, what: &mut [u8], at: usize) -> Opened
     requires { at + 4096 ≤ length what.old }
     ensures { IsPrefixLen result.named what.new }
 {
-    if os::arg_count() <= i {
-        return standard_input(what, at);
-    }
-    let length = os::arg(i, &mut what[at..]);
-    if os::errno() != 0 {
-        os::fail(what);
-        return Opened { fd: -1, named: 0 };
-    }
-    if length == 1 {
-        if what[at] == b'-' {
-            return standard_input(what, at);
+    match rt.arg(i, &mut what[at..]) {
+        Ok(length) => {
+            if length == 1 && what[at] == b'-' {
+                return standard_input(rt, what, at);
+            }
+            let named = at + length;
+            Opened {
+                source: open_file(rt, &what[at..named]),
+                named,
+            }
         }
+        Err(FillError::NotPresent) => standard_input(rt, what, at),
+        Err(FillError::TooLong) => Opened {
+            source: Err(io::Error::from(ErrorKind::InvalidFilename)),
+            named: what.len(),
+        },
     }
-    let named = at + length;
-    let fd = os::open_read(&what[at..named]);
-    if fd < 0 {
-        os::fail(&what[..named]);
-    }
-    Opened { fd, named }
 }

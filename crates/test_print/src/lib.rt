@@ -1,48 +1,44 @@
-// What the test programs print to standard output.
+// What the test programs print to standard output. Each function says whether it could be written.
 #![tactic(auto)]
+
 ghost use Rattle.std.specs.Prelude.{◌≡◌, ℕ, ◌<◌, ◌≤◌, length, get_or};
 
 use answers::{Refusal, Verdict};
-use libc::STDOUT_FILENO;
+use std::io;
 
-pub fn print_text(text: &[u8]) {
-    io::write_all(STDOUT_FILENO, text);
+pub fn print_text(rt: &impl Print, text: &[u8]) -> io::Result<()> {
+    rt.write_all(text)
 }
 
-pub fn print_number(before: &[u8], n: u64) {
-    print_text(before);
-    io::print_decimal(STDOUT_FILENO, n);
+pub fn print_number(rt: &impl Print, before: &[u8], n: u64) -> io::Result<()> {
+    rt.write_all(before)?;
+    rt.print(n)
 }
 
-pub fn print_signed(z: i32) {
-    let n = z as i64;
-    if n < 0 {
-        print_number(b"-", (0 - n) as u64);
-    } else {
-        print_number(b"", n as u64);
-    }
+pub fn print_signed(rt: &impl Print, z: i32) -> io::Result<()> {
+    rt.print(z)
 }
 
 // A word as a signed number.
-pub fn print_word(w: u32) {
+pub fn print_word(rt: &impl Print, w: u32) -> io::Result<()> {
     if w < 0x8000_0000 {
-        print_number(b"", w as u64);
+        print_number(rt, b"", w as u64)
     } else {
-        print_number(b"-", 0x1_0000_0000 - w as u64);
+        print_number(rt, b"-", 0x1_0000_0000 - w as u64)
     }
 }
 
 // Its number and its detail.
-pub fn print_refusal(refusal: Refusal) {
-    print_number(b"refused ", refusal.number() as u64);
-    print_number(b" ", refusal.detail() as u64);
+pub fn print_refusal(rt: &impl Print, refusal: Refusal) -> io::Result<()> {
+    print_number(rt, b"refused ", refusal.number() as u64)?;
+    print_number(rt, b" ", refusal.detail() as u64)
 }
 
-pub fn print_verdict(before: &[u8], verdict: Verdict) {
-    print_text(before);
+pub fn print_verdict(rt: &impl Print, before: &[u8], verdict: Verdict) -> io::Result<()> {
+    print_text(rt, before)?;
     match verdict {
-        Verdict::Accepted => print_text(b"accepted"),
-        Verdict::Refused(refusal) => print_refusal(refusal),
+        Verdict::Accepted => print_text(rt, b"accepted"),
+        Verdict::Refused(refusal) => print_refusal(rt, refusal),
     }
 }
 

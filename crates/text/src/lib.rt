@@ -1,5 +1,6 @@
 // Bytes put into a buffer: a text, a number in decimal, and the line of a refusal. Each function puts into out at a place, and answers the place after it.
 #![tactic(auto)]
+
 ghost use Rattle.std.specs.Prelude.{[], ◌∷◌, ◌+◌, ◌<◌, ◌≤◌, length};
 ghost use Rattle.text.specs.Text.{decimal, space, refused_line, Put};
 
@@ -42,9 +43,8 @@ pub fn put_decimal(out: &mut [u8], at: usize, n: u64) -> usize
     if n < 100 {
         return put_two_digits(out, at, n);
     }
-    let mut digits = [0u8; 20];
-    let count = io::decimal(n, &mut digits);
-    put_text(out, at, &digits[..count])
+    let after_others = put_decimal(out, at, n / 10);
+    put(out, after_others, b'0' + (n % 10) as u8)
 }
 
 // A space, then the number.

@@ -1,5 +1,6 @@
 // Unpacking: lane words to the row-major matrix of bit patterns.
 #![tactic(auto)]
+
 ghost use Rattle.kinds.specs.Workers.{Laid};
 ghost use Rattle.answers.specs.Promised.{Meets};
 ghost use Rattle.unpack.specs.Workers.{unpack_call_in};

@@ -1,7 +1,7 @@
 -- The two branches are the two ways round; the numbers are those of the stretch's first element, and they are small. Assumes nothing.
 use Rattle.std.proofs.Common.{ℕ, Bool, true, false, ◌≡◌, ◌∙◌, sym, ap, ap₂, ◌+◌, ◌*◌, ◌/◌, ◌%◌, ◌<◌, ◌≤◌, arith}
 use Rattle.std.proofs.Math.Nat.{mul-le-mul, mod-lt, div-le_self}
-use Rattle.kinds.specs.Rule.{columns_of, turn, major, minor}
+use Rattle.kinds.specs.Rule.{columns_of, turn}
 use Rattle.kinds.specs.Workers.{Laid}
 use Rattle.kinds.specs.declared.Layout.{Layout}
 use Rattle.buffers.specs.Buffers.{index}

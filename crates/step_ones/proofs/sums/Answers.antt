@@ -1,0 +1,50 @@
+-- After some rows the buffer holds their ones, eight a row. Assumes nothing.
+use Rattle.std.proofs.Common.{◌≡◌, ℕ, ◌+◌, ◌*◌, ◌≤◌, List, length, get_or, refl, sym, ap, subst, ◌∙◌, arith}
+use native.Mathlib.Nat.{zero-add}
+use Rattle.laws.specs.Lists.{fills, blocks}
+use Rattle.laws.proofs.Lists.{block_le, fills_block, fills_at, length_fills}
+use Rattle.step_ones.specs.Combined.{ones_of}
+use Rattle.step_ones.proofs.sums.Goals as goal
+
+pub loop-row-init : goal.loop-row-init
+unfolding fills
+loop-row-init c = refl
+
+pub row_sums-requires : goal.row_sums-requires
+row_sums-requires c =
+    let s = c.args in
+    let p = c.requires.0 in
+    let row = c.loop-row.row in
+    let n = s.spans * 4 in (
+      record {
+        spans_pos = p.spans_pos;
+        spans_le = p.spans_le;
+        mode_le = p.mode_le;
+        row_in = subst (λ (m : ℕ). row * n + n ≤ m) (sym p.of_x) (block_le row (s.halves * 8) n c.loop-row-test.true);
+      },
+      omega (arith, p.halves_le),
+      ap length c.loop-row.invariant ∙ length_fills 0 (row * 8) (blocks 8 (ones_of s.spans s.mode.0 s.x.now s.y.now)) s.out.now ∙ c.requires.1,
+    )
+
+pub loop-row-preserved : goal.loop-row-preserved
+loop-row-preserved c =
+    let s = c.args in
+    let row = c.loop-row.row in
+    let g = ones_of s.spans s.mode.0 s.x.now s.y.now in
+    let out = s.out.now in
+    c.row_sums.ensures
+    ∙ ap (λ (xs : List ℕ). fills (row * 8) 8 (g row) xs) c.loop-row.invariant
+    ∙ ap (λ (base : ℕ). fills base 8 (g row) (fills 0 (row * 8) (blocks 8 g) out)) (sym (zero-add (row * 8)))
+    ∙ fills_block 0 row 8 g out
+
+pub returns : goal.returns
+returns c =
+    let s = c.args in
+    let g = ones_of s.spans s.mode.0 s.x.now s.y.now in
+    let out = s.out.now in
+    let e : c.loop-row.row ≡ s.halves * 8 = omega arith in
+    record {
+      at = λ row column hr hc.
+          ap (λ (xs : List ℕ). get_or xs (row * 8 + column) 0) (c.loop-row.invariant ∙ ap (λ (n : ℕ). fills 0 (n * 8) (blocks 8 g) out) e)
+          ∙ fills_at (s.halves * 8) 8 g out 0 row column (omega (arith, c.requires.0.halves_le, c.requires.1)) hr hc;
+    }
