@@ -1,5 +1,6 @@
 // One multiply step on warp buffers: D is C plus A times B, in the arithmetic kinds.
 #![tactic(auto)]
+
 ghost use Rattle.std.specs.Prelude.{◌≡◌};
 ghost use Rattle.kinds.specs.Kinds.{entry_of};
 ghost use Rattle.answers.specs.Promised.{Meets, Replies, Judges};

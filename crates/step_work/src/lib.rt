@@ -1,5 +1,6 @@
 // A step's worker: the words of D, which are C plus A times B, for numbers and lengths that were judged.
 #![tactic(auto)]
+
 ghost use Rattle.std.specs.Prelude.{◌≡◌, ◌-◌, ◌^◌, ◌<◌, ◌≤◌, length};
 ghost use Rattle.kinds.specs.Kinds.{entry_of, one_bit, integer, Arithmetic};
 ghost use Rattle.answers.specs.Tests.{Says};

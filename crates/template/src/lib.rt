@@ -1,5 +1,6 @@
 // Soft templates: records of 256 bytes that hold B of kind 3, row-major, read into lane words and written back.
 #![tactic(auto)]
+
 ghost use Rattle.std.specs.Prelude.{◌≡◌, length};
 ghost use Rattle.answers.specs.Promised.{Meets};
 ghost use Rattle.buffers.specs.Buffers.{Fitting};

@@ -1,7 +1,11 @@
 -- Where the lane is one of the 32, the element's bits decide. Assumes nothing.
+use Rattle.std.proofs.Common.{◌<◌, arith}
+use Rattle.kinds.specs.Kinds.{lanes}
 use Rattle.answers.proofs.Shows.{tells}
 use Rattle.places.proofs.Limits.{second_decides, past_element}
 use Rattle.places.proofs.element_outside.Goals as goal
 
 pub returns : goal.returns
-returns c = tells _ _ (second_decides 32 _ c.if-lane-ge-COUNT.false (past_element c.args.f c.requires _))
+returns c =
+    let in_warp : c.args.lane.0 < lanes = omega arith in
+    tells _ _ (second_decides lanes _ in_warp (past_element c.args.f c.requires _))
