@@ -5,14 +5,14 @@
 ghost use Rattle.std.specs.Prelude.{◌≡◌, ◌%◌, length};
 ghost use Rattle.std.specs.Counts.{IsPrefixLen};
 
+use std::env::{Env, FillError};
 use std::io::{Print, Read};
 use std::process::ExitCode;
-use std::{env, fmt, io};
+use std::{fmt, io};
 
 // What ended the program before its input did.
 #[derive(Drop)]
 enum Failed {
-    Arguments(io::Error),
     Input(io::Error),
     Output(io::Error),
 }
@@ -20,7 +20,6 @@ enum Failed {
 impl fmt::Display for Failed {
     fn fmt<W: fmt::Write>(&self, f: &mut fmt::Formatter<W>) -> fmt::Result {
         match self {
-            Failed::Arguments(e) => write!(f, "arguments: {e}"),
             Failed::Input(e) => write!(f, "standard input: {e}"),
             Failed::Output(e) => write!(f, "standard output: {e}"),
         }
@@ -76,6 +75,9 @@ fn read_some(from: &mut impl Read, input: &mut [u8]) -> Came
     ensures { IsPrefixLen result.bytes input.new }
 {
     let first = read_once(from, input);
+    if first.failed.is_some() {
+        return first;
+    }
     let begun = first.bytes;
     let missing = (4 - begun % 4) % 4;
     let whole = begun + missing;
@@ -130,17 +132,16 @@ fn answer_all(rt: &impl Print, from: &mut impl Read) -> Result<(), Failed> {
     Ok(())
 }
 
-fn lookup(rt: &HostRuntime) -> Result<(), Failed> {
-    let arguments = env::args(rt).map_err(Failed::Arguments)?;
-    if arguments.len() > 1 {
-        let _ = rt.eprintln("usage: lookup (records of four bytes on standard input)");
-        return Ok(());
-    }
-    answer_all(rt, &mut rt.stdin())
+fn has_argument(rt: &impl Env) -> bool {
+    !matches!(rt.arg(1, &mut []), Err(FillError::NotPresent))
 }
 
 fn main(rt: HostRuntime) -> ExitCode {
-    match lookup(&rt) {
+    if has_argument(&rt) {
+        let _ = rt.eprintln("usage: lookup (records of four bytes on standard input)");
+        return ExitCode::SUCCESS;
+    }
+    match answer_all(&rt, &mut rt.stdin()) {
         Ok(()) => ExitCode::SUCCESS,
         Err(e) => {
             let _ = rt.eprintln(format_args!("lookup: {e}"));

@@ -1,60 +1,83 @@
 // Reads step records from a file or from standard input and prints a verdict for each: the program of document 02, K2. What it prints for
 // which bytes is `replay_text::put_lines`; here bytes are only moved, and what fails is said on standard error.
 #![tactic(auto)]
-ghost use Rattle.std.specs.Prelude.{◌≡◌, ◌^◌, ◌<◌, ◌≤◌, length};
+ghost use Rattle.std.specs.Prelude.{◌≡◌, ◌^◌, ◌<◌, ◌≤◌, length, IfOk};
 
-use libc::{STDERR_FILENO, STDOUT_FILENO};
+use std::io;
+use std::io::{Read, Write};
+use std::process::ExitCode;
+use stream::Source;
 
 // A number of bytes that no input has, since a proved loop has to end.
 const NEVER: u64 = 9223372036854775808;
 
+// What ended the program before its input did.
+#[derive(Drop)]
+enum Failed {
+    Input(io::Error),
+    Output(io::Error),
+}
+
 // One read and its lines, where so many bytes came before; the answer is how many came now, or 0 where it is over.
-fn turn(fd: i32, name: &[u8], input: &mut [u8], come: u64) -> usize
+fn turn(rt: &impl Print, from: &mut impl Read, input: &mut [u8], come: u64) -> Result<usize, Failed>
     requires { (length input.old ≡ 64800) × (come < 2 ^ 63) }
-    ensures { result ≤ 64800 }
+    ensures { IfOk result (λ bytes. bytes ≤ 64800) }
 {
     let mut output = [0u8; 2048];
     let size = records::BYTES as u64;
     let number = come / size;
     let begun = (come % size) as usize;
-    let came = stream::read_behind(fd, input, begun);
-    if came.failed {
-        os::fail(name);
-        return 0;
+    let came = stream::read_behind(from, input, begun);
+    if let Some(e) = came.failed {
+        return Err(Failed::Input(e));
     }
     let held = came.held;
     let end = replay_text::put_lines(number, &input[..held], &mut output);
-    if !io::write_all(STDOUT_FILENO, &output[..end]) {
-        os::fail(b"replay: standard output");
-        return 0;
-    }
+    rt.write_all(&output[..end]).map_err(Failed::Output)?;
     stream::keep(input, held - held % records::BYTES, held);
-    came.bytes
+    Ok(came.bytes)
 }
 
-fn replay_all(fd: i32, name: &[u8]) {
+fn replay_all(rt: &impl Print, from: &mut impl Read) -> Result<(), Failed> {
     let mut input = [0u8; 64800];
     let mut come = 0;
     while come < NEVER {
-        let more = turn(fd, name, &mut input, come);
+        let more = turn(rt, from, &mut input, come)?;
         if more == 0 {
-            return;
+            break;
         }
         come += more as u64;
     }
+    Ok(())
 }
 
-fn main() {
-    if os::arg_count() > 2 {
-        io::write_all(STDERR_FILENO, b"usage: replay [FILE]\n");
-        return;
+// What failed, and why, on standard error, where no more can be done if that fails too.
+fn say(rt: &HostRuntime, what: &[u8], e: io::Error) -> ExitCode {
+    let _ = rt.stderr().write_all(what);
+    let _ = rt.eprintln(format_args!(": {e}"));
+    ExitCode::FAILURE
+}
+
+fn replay(rt: &HostRuntime, source: io::Result<Source>, what: &[u8]) -> ExitCode {
+    let ended = match source {
+        Ok(mut from) => replay_all(rt, &mut from),
+        Err(e) => Err(Failed::Input(e)),
+    };
+    match ended {
+        Ok(()) => ExitCode::SUCCESS,
+        Err(Failed::Input(e)) => say(rt, what, e),
+        Err(Failed::Output(e)) => say(rt, b"replay: standard output", e),
+    }
+}
+
+fn main(rt: HostRuntime) -> ExitCode {
+    if stream::has_argument(&rt, 2) {
+        let _ = rt.eprintln("usage: replay [FILE]");
+        return ExitCode::SUCCESS;
     }
     let mut what = [0u8; 4104];
     let at = text::put_text(&mut what, 0, b"replay: ");
-    let input = stream::open_argument(1, &mut what, at);
-    let named = input.named;
-    if input.fd < 0 {
-        return;
-    }
-    replay_all(input.fd, &what[..named]);
+    let opened = stream::open_argument(&rt, 1, &mut what, at);
+    let named = opened.named;
+    replay(&rt, opened.source, &what[..named])
 }

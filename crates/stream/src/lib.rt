@@ -75,6 +75,10 @@ impl Read for Source {
     }
 }
 
+pub fn has_argument(rt: &impl Env, i: usize) -> bool {
+    !matches!(rt.arg(i, &mut []), Err(FillError::NotPresent))
+}
+
 // An input, or why it could not be opened, and how many bytes name it.
 #[derive(Drop)]
 pub struct Opened {

@@ -1,108 +1,114 @@
 // Words of a fixed pattern are unpacked and packed again, for every kind and role, and written to a template record and read back; then the
 // same with lengths, kinds, roles and entries that are refused. A line each, for an operator to read.
 #![tactic(auto)]
+
 use answers::Verdict;
 use kinds::{Kind, Role};
+use std::io;
 use test_print::{print_number, print_text, print_verdict};
 
 // The largest prime below 2^32: sums are taken modulo it.
 const PRIME: u64 = 4294967291;
 
-fn main() {
-    arithmetic_kinds();
-    other_kinds();
-    later_kinds();
-    template(64, 256);
-    refusals();
-    wide_entries();
-    template_refusals();
+fn main(rt: HostRuntime) -> io::Result<()> {
+    arithmetic_kinds(&rt)?;
+    other_kinds(&rt)?;
+    later_kinds(&rt)?;
+    template(&rt, 64, 256)?;
+    refusals(&rt)?;
+    wide_entries(&rt)?;
+    template_refusals(&rt)
 }
 
-fn arithmetic_kinds() {
-    round(1, 0, 32, 1024);
-    round(1, 1, 32, 1024);
-    round(1, 2, 64, 64);
-    round(2, 0, 64, 256);
-    round(2, 1, 32, 128);
-    round(2, 2, 128, 128);
-    round(3, 0, 128, 512);
-    round(3, 1, 64, 256);
-    round(3, 2, 128, 128);
-    round(4, 0, 64, 512);
-    round(4, 1, 32, 256);
-    round(4, 2, 128, 128);
-    round(5, 0, 128, 1024);
-    round(5, 1, 64, 512);
-    round(5, 2, 128, 128);
+fn arithmetic_kinds(rt: &impl Print) -> io::Result<()> {
+    round(rt, 1, 0, 32, 1024)?;
+    round(rt, 1, 1, 32, 1024)?;
+    round(rt, 1, 2, 64, 64)?;
+    round(rt, 2, 0, 64, 256)?;
+    round(rt, 2, 1, 32, 128)?;
+    round(rt, 2, 2, 128, 128)?;
+    round(rt, 3, 0, 128, 512)?;
+    round(rt, 3, 1, 64, 256)?;
+    round(rt, 3, 2, 128, 128)?;
+    round(rt, 4, 0, 64, 512)?;
+    round(rt, 4, 1, 32, 256)?;
+    round(rt, 4, 2, 128, 128)?;
+    round(rt, 5, 0, 128, 1024)?;
+    round(rt, 5, 1, 64, 512)?;
+    round(rt, 5, 2, 128, 128)
 }
 
-fn other_kinds() {
-    round(6, 0, 64, 128);
-    round(6, 1, 32, 64);
-    round(6, 2, 128, 128);
-    round(7, 0, 64, 128);
-    round(7, 1, 32, 64);
-    round(7, 2, 64, 128);
-    round(8, 0, 128, 128);
-    round(8, 1, 64, 64);
-    round(8, 2, 128, 128);
-    round(9, 0, 256, 128);
-    round(9, 1, 128, 64);
-    round(9, 2, 256, 128);
-    round(10, 0, 64, 32);
-    round(10, 1, 64, 32);
-    round(10, 2, 128, 64);
+fn other_kinds(rt: &impl Print) -> io::Result<()> {
+    round(rt, 6, 0, 64, 128)?;
+    round(rt, 6, 1, 32, 64)?;
+    round(rt, 6, 2, 128, 128)?;
+    round(rt, 7, 0, 64, 128)?;
+    round(rt, 7, 1, 32, 64)?;
+    round(rt, 7, 2, 64, 128)?;
+    round(rt, 8, 0, 128, 128)?;
+    round(rt, 8, 1, 64, 64)?;
+    round(rt, 8, 2, 128, 128)?;
+    round(rt, 9, 0, 256, 128)?;
+    round(rt, 9, 1, 128, 64)?;
+    round(rt, 9, 2, 256, 128)?;
+    round(rt, 10, 0, 64, 32)?;
+    round(rt, 10, 1, 64, 32)?;
+    round(rt, 10, 2, 128, 64)
 }
 
-fn later_kinds() {
-    round(11, 0, 32, 128);
-    round(11, 1, 32, 128);
-    round(11, 2, 64, 64);
-    round(12, 0, 32, 256);
-    round(12, 1, 32, 256);
-    round(12, 2, 64, 64);
-    round(13, 0, 64, 2048);
-    round(13, 1, 32, 1024);
-    round(13, 2, 128, 128);
-    round(14, 0, 128, 4096);
-    round(14, 1, 64, 2048);
-    round(14, 2, 128, 128);
+fn later_kinds(rt: &impl Print) -> io::Result<()> {
+    round(rt, 11, 0, 32, 128)?;
+    round(rt, 11, 1, 32, 128)?;
+    round(rt, 11, 2, 64, 64)?;
+    round(rt, 12, 0, 32, 256)?;
+    round(rt, 12, 1, 32, 256)?;
+    round(rt, 12, 2, 64, 64)?;
+    round(rt, 13, 0, 64, 2048)?;
+    round(rt, 13, 1, 32, 1024)?;
+    round(rt, 13, 2, 128, 128)?;
+    round(rt, 14, 0, 128, 4096)?;
+    round(rt, 14, 1, 64, 2048)?;
+    round(rt, 14, 2, 128, 128)
 }
 
-fn refusals() {
-    round(0, 0, 128, 512);
-    trial(Case(15, 3, 127, 511), Spoiled(256, 5, 6));
-    trial(Case(4294967295, 0, 128, 512), Spoiled(256, 5, 6));
-    trial(Case(3, 3, 127, 511), Spoiled(256, 5, 6));
-    round(3, 0, 127, 512);
-    round(3, 0, 129, 512);
-    round(3, 0, 128, 511);
-    round(3, 0, 128, 513);
-    round(3, 0, 127, 511);
-    trial(Case(3, 0, 127, 512), Spoiled(256, 5, 6));
-    trial(Case(3, 0, 128, 511), Spoiled(256, 5, 6));
-    round(9, 2, 0, 0);
+fn refusals(rt: &impl Print) -> io::Result<()> {
+    round(rt, 0, 0, 128, 512)?;
+    trial(rt, Case(15, 3, 127, 511), Spoiled(256, 5, 6))?;
+    trial(rt, Case(4294967295, 0, 128, 512), Spoiled(256, 5, 6))?;
+    trial(rt, Case(3, 3, 127, 511), Spoiled(256, 5, 6))?;
+    round(rt, 3, 0, 127, 512)?;
+    round(rt, 3, 0, 129, 512)?;
+    round(rt, 3, 0, 128, 511)?;
+    round(rt, 3, 0, 128, 513)?;
+    round(rt, 3, 0, 127, 511)?;
+    trial(rt, Case(3, 0, 127, 512), Spoiled(256, 5, 6))?;
+    trial(rt, Case(3, 0, 128, 511), Spoiled(256, 5, 6))?;
+    round(rt, 9, 2, 0, 0)
 }
 
-fn wide_entries() {
-    trial(Case(1, 0, 32, 1024), Spoiled(2, 3, 1000));
-    trial(Case(1, 1, 32, 1024), Spoiled(2, 1023, 1023));
-    trial(Case(4, 0, 64, 512), Spoiled(16, 511, 510));
-    trial(Case(3, 0, 128, 512), Spoiled(256, 300, 5));
-    trial(Case(6, 1, 32, 64), Spoiled(65536, 0, 63));
-    trial(Case(7, 2, 64, 128), Spoiled(65536, 127, 126));
-    trial(Case(8, 0, 128, 128), Spoiled(4294967296, 64, 65));
-    trial(Case(6, 2, 128, 128), Spoiled(18446744073709551615, 9, 8));
-    trial(Case(12, 1, 32, 256), Spoiled(16, 200, 201));
-    trial(Case(14, 0, 128, 4096), Spoiled(2, 4095, 4000));
+fn wide_entries(rt: &impl Print) -> io::Result<()> {
+    trial(rt, Case(1, 0, 32, 1024), Spoiled(2, 3, 1000))?;
+    trial(rt, Case(1, 1, 32, 1024), Spoiled(2, 1023, 1023))?;
+    trial(rt, Case(4, 0, 64, 512), Spoiled(16, 511, 510))?;
+    trial(rt, Case(3, 0, 128, 512), Spoiled(256, 300, 5))?;
+    trial(rt, Case(6, 1, 32, 64), Spoiled(65536, 0, 63))?;
+    trial(rt, Case(7, 2, 64, 128), Spoiled(65536, 127, 126))?;
+    trial(rt, Case(8, 0, 128, 128), Spoiled(4294967296, 64, 65))?;
+    trial(
+        rt,
+        Case(6, 2, 128, 128),
+        Spoiled(18446744073709551615, 9, 8),
+    )?;
+    trial(rt, Case(12, 1, 32, 256), Spoiled(16, 200, 201))?;
+    trial(rt, Case(14, 0, 128, 4096), Spoiled(2, 4095, 4000))
 }
 
-fn template_refusals() {
-    template(63, 256);
-    template(65, 256);
-    template(64, 255);
-    template(64, 257);
-    template(63, 255);
+fn template_refusals(rt: &impl Print) -> io::Result<()> {
+    template(rt, 63, 256)?;
+    template(rt, 65, 256)?;
+    template(rt, 64, 255)?;
+    template(rt, 64, 257)?;
+    template(rt, 63, 255)
 }
 
 // A kind and a role with so many words and so many entries.
@@ -113,113 +119,147 @@ struct Case(u32, u32, usize, usize);
 #[derive(Clone, Copy)]
 struct Spoiled(u64, usize, usize);
 
-fn round(kind: u32, role: u32, n: usize, entries: usize) {
-    trial(Case(kind, role, n, entries), Spoiled(0, 0, 0));
+fn round(rt: &impl Print, kind: u32, role: u32, n: usize, entries: usize) -> io::Result<()> {
+    trial(rt, Case(kind, role, n, entries), Spoiled(0, 0, 0))
 }
 
-fn trial(case: Case, spoiled: Spoiled) {
+fn trial(rt: &impl Print, case: Case, spoiled: Spoiled) -> io::Result<()> {
     let mut words: [u32; 256] = [0; 256];
     let mut matrix: [u64; 4096] = [0; 4096];
-    trial_cut(case, spoiled, &mut words, &mut matrix);
+    trial_cut(rt, case, spoiled, &mut words, &mut matrix)
 }
 
 // The first so many words and entries.
-fn trial_cut(case: Case, spoiled: Spoiled, words: &mut [u32], matrix: &mut [u64]) {
+fn trial_cut(
+    rt: &impl Print,
+    case: Case,
+    spoiled: Spoiled,
+    words: &mut [u32],
+    matrix: &mut [u64],
+) -> io::Result<()> {
     let n = case.2;
     let entries = case.3;
     if words.len() < n {
-        return;
+        return Ok(());
     }
     if matrix.len() < entries {
-        return;
+        return Ok(());
     }
     trial_in(
+        rt,
         case.0,
         case.1,
         spoiled,
         &mut words[0..n],
         &mut matrix[0..entries],
-    );
+    )
 }
 
-fn trial_in(kind: u32, role: u32, spoiled: Spoiled, words: &mut [u32], matrix: &mut [u64]) {
-    print_number(b"kind ", kind as u64);
-    print_number(b" role ", role as u64);
-    print_lengths(words.len(), matrix.len(), b" entries");
-    there(kind, role, words, matrix);
-    spoil(matrix, spoiled);
-    back(kind, role, matrix, words);
+fn trial_in(
+    rt: &impl Print,
+    kind: u32,
+    role: u32,
+    spoiled: Spoiled,
+    words: &mut [u32],
+    matrix: &mut [u64],
+) -> io::Result<()> {
+    print_number(rt, b"kind ", kind as u64)?;
+    print_number(rt, b" role ", role as u64)?;
+    print_lengths(rt, words.len(), matrix.len(), b" entries")?;
+    there(rt, kind, role, words, matrix)?;
+    spoil(rt, matrix, spoiled)?;
+    back(rt, kind, role, matrix, words)
 }
 
-fn there(kind: u32, role: u32, words: &mut [u32], matrix: &mut [u64]) {
+fn there(
+    rt: &impl Print,
+    kind: u32,
+    role: u32,
+    words: &mut [u32],
+    matrix: &mut [u64],
+) -> io::Result<()> {
     make(words, kind, role);
     print_verdict(
+        rt,
         b": unpack ",
         unpack::unpack(Kind(kind), Role(role), words, matrix),
-    );
-    print_number(b", sum ", sum(matrix));
+    )?;
+    print_number(rt, b", sum ", sum(matrix))
 }
 
-fn back(kind: u32, role: u32, matrix: &[u64], words: &mut [u32]) {
+fn back(
+    rt: &impl Print,
+    kind: u32,
+    role: u32,
+    matrix: &[u64],
+    words: &mut [u32],
+) -> io::Result<()> {
     make(words, 0, 0);
     let v = pack::pack(Kind(kind), Role(role), matrix, words);
-    print_verdict(b", pack ", v);
-    print_words(v, words, kind, role);
+    print_verdict(rt, b", pack ", v)?;
+    print_words(rt, v, words, kind, role)
 }
 
 // The same with a template record of so many bytes.
-fn template(n: usize, bytes: usize) {
+fn template(rt: &impl Print, n: usize, bytes: usize) -> io::Result<()> {
     let mut words: [u32; 256] = [0; 256];
     let mut record: [u8; 512] = [0; 512];
-    template_cut(n, bytes, &mut words, &mut record);
+    template_cut(rt, n, bytes, &mut words, &mut record)
 }
 
-fn template_cut(n: usize, bytes: usize, words: &mut [u32], record: &mut [u8]) {
+fn template_cut(
+    rt: &impl Print,
+    n: usize,
+    bytes: usize,
+    words: &mut [u32],
+    record: &mut [u8],
+) -> io::Result<()> {
     if words.len() < n {
-        return;
+        return Ok(());
     }
     if record.len() < bytes {
-        return;
+        return Ok(());
     }
-    template_in(&mut words[0..n], &mut record[0..bytes]);
+    template_in(rt, &mut words[0..n], &mut record[0..bytes])
 }
 
-fn template_in(words: &mut [u32], record: &mut [u8]) {
-    print_text(b"template");
-    print_lengths(words.len(), record.len(), b" bytes");
+fn template_in(rt: &impl Print, words: &mut [u32], record: &mut [u8]) -> io::Result<()> {
+    print_text(rt, b"template")?;
+    print_lengths(rt, words.len(), record.len(), b" bytes")?;
     make(words, 3, 1);
-    print_verdict(b": write ", template::write(words, record));
-    print_number(b", sum ", sum_bytes(record));
+    print_verdict(rt, b": write ", template::write(words, record))?;
+    print_number(rt, b", sum ", sum_bytes(record))?;
     make(words, 0, 0);
     let v = template::read(record, words);
-    print_verdict(b", read ", v);
-    print_words(v, words, 3, 1);
+    print_verdict(rt, b", read ", v)?;
+    print_words(rt, v, words, 3, 1)
 }
 
 // Where the call was accepted the words should be those of the kind and the role again, and otherwise those that stood there.
-fn print_words(v: Verdict, words: &[u32], kind: u32, role: u32) {
+fn print_words(rt: &impl Print, v: Verdict, words: &[u32], kind: u32, role: u32) -> io::Result<()> {
     match v {
         Verdict::Accepted => {
-            print_number(b", ", differ(words, kind, role));
-            print_text(b" words differ\n");
+            print_number(rt, b", ", differ(words, kind, role))?;
+            print_text(rt, b" words differ\n")
         }
         Verdict::Refused(_) => {
-            print_number(b", ", differ(words, 0, 0));
-            print_text(b" words changed\n");
+            print_number(rt, b", ", differ(words, 0, 0))?;
+            print_text(rt, b" words changed\n")
         }
     }
 }
 
-fn spoil(matrix: &mut [u64], spoiled: Spoiled) {
+fn spoil(rt: &impl Print, matrix: &mut [u64], spoiled: Spoiled) -> io::Result<()> {
     let x = spoiled.0;
     if x == 0 {
-        return;
+        return Ok(());
     }
-    print_number(b", ", x);
-    print_number(b" at ", spoiled.1 as u64);
-    print_number(b" and ", spoiled.2 as u64);
+    print_number(rt, b", ", x)?;
+    print_number(rt, b" at ", spoiled.1 as u64)?;
+    print_number(rt, b" and ", spoiled.2 as u64)?;
     put(matrix, spoiled.1, x);
     put(matrix, spoiled.2, x);
+    Ok(())
 }
 
 fn put(matrix: &mut [u64], i: usize, x: u64) {
@@ -285,8 +325,8 @@ fn wide(x: u8) -> u64 {
     x as u64
 }
 
-fn print_lengths(n: usize, m: usize, other: &[u8]) {
-    print_number(b", ", n as u64);
-    print_number(b" words, ", m as u64);
-    print_text(other);
+fn print_lengths(rt: &impl Print, n: usize, m: usize, other: &[u8]) -> io::Result<()> {
+    print_number(rt, b", ", n as u64)?;
+    print_number(rt, b" words, ", m as u64)?;
+    print_text(rt, other)
 }

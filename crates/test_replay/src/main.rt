@@ -1,11 +1,13 @@
 // What replay prints where the numbers leave 32 bits, and up to the last that it prints: for two step records, of which the second is wrong at row
 // 8, column 0, and for a part of a third nothing.
 #![tactic(auto)]
+
 ghost use Rattle.std.specs.Prelude.{◌+◌, ◌^◌, ◌<◌};
 
+use std::io;
 use test_print::print_text;
 
-fn lines(number: u64)
+fn lines(rt: &impl Print, number: u64) -> io::Result<()>
     requires { number + 2 < 2 ^ 64 }
 {
     let mut bytes = [0u8; 3601];
@@ -16,11 +18,11 @@ fn lines(number: u64)
     bytes[3096] = 1;
     bytes[3600] = 3;
     let end = replay_text::put_lines(number, &bytes, &mut text);
-    print_text(&text[..end]);
+    print_text(rt, &text[..end])
 }
 
-fn main() {
-    lines(0);
-    lines(4294967295);
-    lines(18446744073709551613);
+fn main(rt: HostRuntime) -> io::Result<()> {
+    lines(&rt, 0)?;
+    lines(&rt, 4294967295)?;
+    lines(&rt, 18446744073709551613)
 }
