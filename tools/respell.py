@@ -64,13 +64,15 @@ LOCAL = [
     ("replay_text/proofs/compare/Proof.antt", "step_words", "right_words"),
     ("step_work/proofs/Counted.antt", "one_bit", "single_bit"),
 ]
+# Constructors that one line declares together.
+TOGETHER = "roleA roleB roleC partA partB partC partD".split()
 # `specs.contracts` is a module of the toolchain's.
 MOVED = ("answers", "Contracts", "Promised")
 
 
 def pairs():
     kept = re.compile(r"^(invariant|decreases)-|-requires(-\d+)?$|^(loop|returns|overflow|slice|array)(-|$)")
-    found = {}
+    found = {name: snake(name) for name in TOGETHER}
     for name, paths in declared().items():
         if all(by_hand(p) for p in paths) and kept.search(name):
             continue

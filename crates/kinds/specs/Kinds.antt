@@ -31,10 +31,10 @@ abbrev pub roles : ℕ
 roles = 3
 
 pub data KnownRole : Type 0 where
-  roleA roleB roleC : KnownRole
+  role_a role_b role_c : KnownRole
 
 abbrev pub role_of : ℕ → KnownRole
-role_of r = get_or (roleA ∷ roleB ∷ roleC ∷ []) r roleA
+role_of r = get_or (role_a ∷ role_b ∷ role_c ∷ []) r role_a
 
 -- What an element of A and B is: a bit, an integer, a float, in this order.
 abbrev pub one_bit_element : ℕ
@@ -115,24 +115,24 @@ pub record Arithmetic (k : ℕ) : Type 0 where
 
 -- In mMnNkK, A is M by K, B is K by N, C and D are M by N.
 abbrev pub rows : Entry → KnownRole → ℕ
-rows e roleA = e.m
-rows e roleB = e.k
-rows e roleC = e.m
+rows e role_a = e.m
+rows e role_b = e.k
+rows e role_c = e.m
 
 abbrev pub columns : Entry → KnownRole → ℕ
-columns e roleA = e.k
-columns e roleB = e.n
-columns e roleC = e.n
+columns e role_a = e.k
+columns e role_b = e.n
+columns e role_c = e.n
 
 abbrev pub bits : Entry → KnownRole → ℕ
-bits e roleA = e.bits
-bits e roleB = e.bits
-bits e roleC = sum_bits e.element
+bits e role_a = e.bits
+bits e role_b = e.bits
+bits e role_c = sum_bits e.element
 
 abbrev pub words : Entry → KnownRole → ℕ
-words e roleA = e.a
-words e roleB = e.b
-words e roleC = e.c
+words e role_a = e.a
+words e role_b = e.b
+words e role_c = e.c
 
 -- Elements fill a word from its low bits up, then the next word: so many elements has a lane.
 abbrev pub elements : Entry → KnownRole → ℕ

@@ -2,7 +2,7 @@
 -- clause is (row, column). Assumes nothing.
 use Rattle.std.specs.Prelude.{ℕ, ◌+◌, ◌*◌, ◌/◌, ◌%◌, ◌&&◌, ◌||◌}
 use Rattle.laws.specs.Choice.{if◌then◌else◌, ◌<?◌, ◌≤?◌, ◌=?◌}
-use Rattle.kinds.specs.Kinds.{KnownKind, kind1, kind2, kind3, kind4, kind5, kind6, kind7, kind8, kind9, kind10, kind11, kind12, kind13, kind14, KnownRole, roleA, roleB, roleC, word_bits}
+use Rattle.kinds.specs.Kinds.{KnownKind, kind1, kind2, kind3, kind4, kind5, kind6, kind7, kind8, kind9, kind10, kind11, kind12, kind13, kind14, KnownRole, role_a, role_b, role_c, word_bits}
 
 -- A (row; column)
 abbrev pub place_a : KnownKind → (g t i : ℕ) → ℕ × ℕ
@@ -63,9 +63,9 @@ place_c kind14 = wide_c
 
 -- the row and the column of element i of a lane
 unfoldable pub place_of : KnownKind → KnownRole → (lane i : ℕ) → ℕ × ℕ
-place_of κ roleA lane i = place_a κ (lane / 4) (lane % 4) i
-place_of κ roleB lane i = (row_b κ (lane % 4) i, lane / 4)
-place_of κ roleC lane i = place_c κ (lane / 4) (lane % 4) i
+place_of κ role_a lane i = place_a κ (lane / 4) (lane % 4) i
+place_of κ role_b lane i = (row_b κ (lane % 4) i, lane / 4)
+place_of κ role_c lane i = place_c κ (lane / 4) (lane % 4) i
 
 -- K9: the word within the lane and the lowest bit in that word. Elements fill a word from its low bits up, then the next word; so for a
 -- 64-bit element that is the low word, bit 0.

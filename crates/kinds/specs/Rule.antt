@@ -10,7 +10,7 @@
 -- Assumes nothing.
 use Rattle.std.specs.Prelude.{ℕ, ◌+◌, ◌*◌, ◌/◌, ◌%◌, Bool, true, false}
 use Rattle.laws.specs.Choice.{if◌then◌else◌, ◌<?◌}
-use Rattle.kinds.specs.Kinds.{KnownRole, roleA, roleB, roleC, word_bits, bits, words}
+use Rattle.kinds.specs.Kinds.{KnownRole, role_a, role_b, role_c, word_bits, bits, words}
 use Rattle.kinds.specs.declared.Entry.{Entry}
 use Rattle.kinds.specs.declared.Layout.{Layout}
 
@@ -41,9 +41,9 @@ spread b w p x y t = shape b w p (x / 8) (y / 4 / p) t
 
 -- A is m by k, B is k by n, C is m by n, with C's elements in pairs; in B the major number is the column.
 abbrev pub layout_of : Entry → KnownRole → Layout
-layout_of e roleA = spread (bits e roleA) (words e roleA) (side_of e.bits) e.m e.k false
-layout_of e roleB = spread (bits e roleB) (words e roleB) (side_of e.bits) e.n e.k true
-layout_of e roleC = spread (bits e roleC) (words e roleC) 2 e.m e.n false
+layout_of e role_a = spread (bits e role_a) (words e role_a) (side_of e.bits) e.m e.k false
+layout_of e role_b = spread (bits e role_b) (words e role_b) (side_of e.bits) e.n e.k true
+layout_of e role_c = spread (bits e role_c) (words e role_c) 2 e.m e.n false
 
 -- a lane's elements; the major and the minor numbers there are
 abbrev pub elements_of : Layout → ℕ

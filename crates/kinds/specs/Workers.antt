@@ -3,7 +3,7 @@ use Rattle.std.specs.Prelude.{ℕ, zero, suc, ◌*◌, ◌/◌, ◌<◌, ◌≤�
 use Rattle.laws.specs.Choice.{if◌then◌else◌, ◌=?◌, NoneBelow}
 use Rattle.answers.specs.Refusals.{Answer, given, refused}
 use Rattle.answers.specs.Calls.{Call}
-use Rattle.kinds.specs.Kinds.{kinds, table, roleA, roleB, roleC, word_bits, entry_of, role_of}
+use Rattle.kinds.specs.Kinds.{kinds, table, role_a, role_b, role_c, word_bits, entry_of, role_of}
 use Rattle.kinds.specs.Rule.{side_of, layout_of}
 use Rattle.kinds.specs.Refusals.{layout_refusals}
 use Rattle.kinds.specs.declared.Line.{Line}
@@ -37,7 +37,7 @@ abbrev pub layout_call : (kind role : ℕ) → Call Layout
 layout_call k r = record { refusals = layout_refusals k r; gives = layout_of (entry_of k) (role_of r) }
 
 abbrev pub layouts_of : (kind : ℕ) → Layouts
-layouts_of k = record { a = layout_of (entry_of k) roleA; b = layout_of (entry_of k) roleB; c = layout_of (entry_of k) roleC }
+layouts_of k = record { a = layout_of (entry_of k) role_a; b = layout_of (entry_of k) role_b; c = layout_of (entry_of k) role_c }
 
 -- a width at which elements fill words evenly, or a word's double
 pub record Width (b : ℕ) : Type 0 where

@@ -7,7 +7,7 @@ use native.Mathlib.Omega.{arith}
 use lib.ListN.{get_or}
 use Rattle.laws.specs.Lists.{tab}
 use Rattle.laws.proofs.Lists.{get_or_tab}
-use Rattle.kinds.specs.Kinds.{kind5, roleA, Legal}
+use Rattle.kinds.specs.Kinds.{kind5, role_a, Legal}
 use Rattle.kinds.specs.Places.{place_of}
 use Rattle.kinds.specs.Rule.{major, minor, lane_of, element_of, holder_of}
 use Rattle.kinds.proofs.Digits.{lane_back, element_back, major_back, minor_back, major_lt, minor_lt, lane_lt, element_lt}
@@ -16,7 +16,7 @@ use Rattle.kinds.proofs.Whole.{whole_at}
 use Rattle.place_tables.specs.Tables.{entries, joined, place_table, holder_table}
 
 -- 'One statement over each whole table ties it to 01's rule': by lane and element, 64 times row plus column as document 01 places them,
-pub place_table_lem : place_table ≡ tab entries (λ n. joined 64 (place_of kind5 roleA (n / 32) (n % 32)))
+pub place_table_lem : place_table ≡ tab entries (λ n. joined 64 (place_of kind5 role_a (n / 32) (n % 32)))
 unfolding place_table place_of
 place_table_lem = refl
 
@@ -36,18 +36,18 @@ legal = record { low = omega arith; high = omega arith; role = omega arith }
 
 -- the entry of a lane and an element
 module _ (l i : ℕ) (hl : l < 32) (hi : i < 32) where
-  pub place_entry_lem : get_or place_table (32 * l + i) 0 ≡ joined 64 (place_of kind5 roleA l i)
+  pub place_entry_lem : get_or place_table (32 * l + i) 0 ≡ joined 64 (place_of kind5 role_a l i)
   place_entry_lem =
       let el : (32 * l + i) / 32 ≡ l = omega arith in
       let ei : (32 * l + i) % 32 ≡ i = omega arith in
       ap (λ (xs : List ℕ). get_or xs (32 * l + i) 0) place_table_lem
-      ∙ get_or_tab entries (λ n. joined 64 (place_of kind5 roleA (n / 32) (n % 32))) (32 * l + i) 0 (omega arith)
-      ∙ ap₂ (λ (l i : ℕ). joined 64 (place_of kind5 roleA l i)) el ei
+      ∙ get_or_tab entries (λ n. joined 64 (place_of kind5 role_a (n / 32) (n % 32))) (32 * l + i) 0 (omega arith)
+      ∙ ap₂ (λ (l i : ℕ). joined 64 (place_of kind5 role_a l i)) el ei
 
-  by_rule_lem : place_of kind5 roleA l i ≡ (major 8 2 l i, minor 8 2 l i)
+  by_rule_lem : place_of kind5 role_a l i ≡ (major 8 2 l i, minor 8 2 l i)
   by_rule_lem = whole_at 5 0 l i legal hl hi
 
-  pub column_lt : (place_of kind5 roleA l i).1 < 64
+  pub column_lt : (place_of kind5 role_a l i).1 < 64
   column_lt = rw by_rule_lem (minor_lt 8 2 eight two 2 l i hi)
 
 -- and of a row and a column

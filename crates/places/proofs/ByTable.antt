@@ -7,7 +7,7 @@ use lib.ListN.{get_or}
 use Rattle.answers.specs.Promised.{Tells}
 use Rattle.answers.proofs.Shows.{tells_is}
 use Rattle.answers.proofs.Words.{says}
-use Rattle.kinds.specs.Kinds.{kind5, roleA}
+use Rattle.kinds.specs.Kinds.{kind5, role_a}
 use Rattle.kinds.specs.Places.{place_of, word_within, lowest_bit, with_word_and_bit}
 use Rattle.kinds.specs.Rule.{lane_of, element_of, holder_of}
 use Rattle.kinds.proofs.Table.{layout_at}
@@ -23,9 +23,9 @@ at_table k r b t e P p =
 
 -- row and column of an entry, with the element's word and bit
 pub placed : (l i e w b : ℕ) → l < 32 → i < 32 → e ≡ get_or place_table (32 * l + i) 0 → w ≡ word_within 4 i → b ≡ lowest_bit 4 i
-    → (e / 64, e % 64, w, b) ≡ with_word_and_bit 4 i (place_of kind5 roleA l i)
+    → (e / 64, e % 64, w, b) ≡ with_word_and_bit 4 i (place_of kind5 role_a l i)
 placed l i e w b hl hi p ew eb =
-    let x = place_of kind5 roleA l i in
+    let x = place_of kind5 role_a l i in
     let sum : e ≡ 64 * x.0 + x.1 = p ∙ place_entry_lem l i hl hi in
     let below = column_lt l i hl hi in
     let row : e / 64 ≡ x.0 = omega (arith, sum, below) in

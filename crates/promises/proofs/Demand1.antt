@@ -22,7 +22,7 @@ use Rattle.answers.proofs.Words.{says}
 use Rattle.answers.proofs.Demand1 as every
 use Rattle.laws.specs.Choice.{if◌then◌else◌, ◌=?◌}
 use Rattle.laws.proofs.Every.{all, all_at}
-use Rattle.kinds.specs.Kinds.{kinds, roleC, line_at, entry_of, bits, bits_at, one_bit_element, int8_element, int4_element, one_bit, integer, arithmetic}
+use Rattle.kinds.specs.Kinds.{kinds, role_c, line_at, entry_of, bits, bits_at, one_bit_element, int8_element, int4_element, one_bit, integer, arithmetic}
 use Rattle.kinds.specs.declared.Entry.{Entry}
 use Rattle.places.specs.PlaceCalls.{place_call, find_call}
 use Rattle.unpack.specs.UnpackCall.{unpack_call}
@@ -166,5 +166,5 @@ sum_bits_in k = if k =? 7 then 16 else if (k =? 9) || (k =? 10) then 64 else 32
 pub sum_bits_lem : (k : ℕ) → 1 ≤ k → k ≤ 14 → bits_at k 2 ≡ sum_bits_in k
 sum_bits_lem k low high =
     let back : suc (k - 1) ≡ k = omega arith in
-    eqb→eq (bits_at k 2) (sum_bits_in (suc (k - 1))) (all_at kinds (λ j. eqb (bits (line_at j) roleC) (sum_bits_in (suc j))) tt (k - 1) (omega arith))
+    eqb→eq (bits_at k 2) (sum_bits_in (suc (k - 1))) (all_at kinds (λ j. eqb (bits (line_at j) role_c) (sum_bits_in (suc j))) tt (k - 1) (omega arith))
     ∙ ap sum_bits_in back

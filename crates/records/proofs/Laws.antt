@@ -27,7 +27,7 @@ use Rattle.step.specs.Workers.{told_line}
 use Rattle.step.specs.declared.Selected.{Selected}
 use Rattle.step.specs.declared.Selected.TheVariants.{As, Refused as Selected-as-Refused}
 use Rattle.step_limit.proofs.Marks.{get_d_past}
-use Rattle.records.specs.Records.{Part, partA, partB, partC, partD, bytes_of, word_at, words_in, words_used, logged, asks_plain, mode_for, kind_in, record_refusals, record_call}
+use Rattle.records.specs.Records.{Part, part_a, part_b, part_c, part_d, bytes_of, word_at, words_in, words_used, logged, asks_plain, mode_for, kind_in, record_refusals, record_call}
 
 -- the words that an arithmetic kind uses stand within their part
 module _ (k : ℕ) (ok : Arithmetic k) where
@@ -61,10 +61,10 @@ module _ (bytes : List ℕ) (fit : Fitting 8 bytes) where
       (within bytes (λ b. b < 2 ^ 8) (omega arith) fit (from + i)))
 
   pub bytes_fit : (part : Part) (i : ℕ) → get_or (bytes_of part bytes) i 0 < 2 ^ 8
-  bytes_fit partA = part_fits 8 512
-  bytes_fit partB = part_fits 520 256
-  bytes_fit partC = part_fits 776 512
-  bytes_fit partD = part_fits 1288 512
+  bytes_fit part_a = part_fits 8 512
+  bytes_fit part_b = part_fits 520 256
+  bytes_fit part_c = part_fits 776 512
+  bytes_fit part_d = part_fits 1288 512
 
   pub logged_lt : (part : Part) (x : ℕ) → get_or (logged part bytes) x 0 < 2 ^ 32
   unfolding logged words_in

@@ -17,7 +17,7 @@ use Rattle.answers.specs.Right.{Denies}
 use Rattle.answers.proofs.Words.{says_not}
 use Rattle.answers.proofs.Shows.{denied}
 use Rattle.buffers.specs.Buffers.{Fitting, words_needed}
-use Rattle.records.specs.Records.{record_bytes, kind_in, signs_in, mode_in, reserved, Part, partA, partB, partC, partD, bytes_of, word_at, words_in, role_in, words_used, logged, tail, of_arithmetic, unused_not_zero}
+use Rattle.records.specs.Records.{record_bytes, kind_in, signs_in, mode_in, reserved, Part, part_a, part_b, part_c, part_d, bytes_of, word_at, words_in, role_in, words_used, logged, tail, of_arithmetic, unused_not_zero}
 use Rattle.records.proofs.Laws.{bytes_fit}
 
 -- 'Kind, signs, mode, five zero bytes, then A (512), B (256), C (512) and D (512)': these, one after another, are the record's bytes.
@@ -25,14 +25,14 @@ behind : (from count : ℕ) (bytes : List ℕ) → drop from bytes ≡ take coun
 behind from count bytes = sym (take-append-drop count (drop from bytes)) ∙ ap (λ (rest : List ℕ). take count (drop from bytes) ++ rest) (drop-drop count from bytes)
 
 pub one_after_another : (bytes : List ℕ) → length bytes ≡ record_bytes
-    → bytes ≡ take 3 bytes ++ (reserved bytes ++ (bytes_of partA bytes ++ (bytes_of partB bytes ++ (bytes_of partC bytes ++ bytes_of partD bytes))))
+    → bytes ≡ take 3 bytes ++ (reserved bytes ++ (bytes_of part_a bytes ++ (bytes_of part_b bytes ++ (bytes_of part_c bytes ++ bytes_of part_d bytes))))
 one_after_another bytes e =
     sym (take-append-drop 3 bytes)
     ∙ then (take 3 bytes) (behind 3 5 bytes
     ∙ then (reserved bytes) (behind 8 512 bytes
-    ∙ then (bytes_of partA bytes) (behind 520 256 bytes
-    ∙ then (bytes_of partB bytes) (behind 776 512 bytes
-    ∙ then (bytes_of partC bytes) (sym (take_all 512 (drop 1288 bytes) (omega (arith, length-drop 1288 bytes, e))))))))
+    ∙ then (bytes_of part_a bytes) (behind 520 256 bytes
+    ∙ then (bytes_of part_b bytes) (behind 776 512 bytes
+    ∙ then (bytes_of part_c bytes) (sym (take_all 512 (drop 1288 bytes) (omega (arith, length-drop 1288 bytes, e))))))))
   where
     then : (x : List ℕ) {y z : List ℕ} → y ≡ z → x ++ y ≡ x ++ z
     then x h = ap (λ (rest : List ℕ). x ++ rest) h
@@ -84,23 +84,23 @@ module _ (bytes : List ℕ) (clean : ¬ Says (unused_not_zero bytes)) where
   denies = denied (unused_not_zero bytes) ((says_not (unused_not_zero bytes)).1 clean)
 
   tail_zero : Says (of_arithmetic (kind_in bytes)) → (part : Part) (i : ℕ) → i < length (tail part bytes) → get_or (tail part bytes) i 0 ≡ 0
-  tail_zero of partA = (denies.1 of).0
-  tail_zero of partB = (denies.1 of).1.0
-  tail_zero of partC = (denies.1 of).1.1.0
-  tail_zero of partD = (denies.1 of).1.1.1
+  tail_zero of part_a = (denies.1 of).0
+  tail_zero of part_b = (denies.1 of).1.0
+  tail_zero of part_c = (denies.1 of).1.1.0
+  tail_zero of part_d = (denies.1 of).1.1.1
 
 size_of : Part → ℕ
-size_of partA = 512
-size_of partB = 256
-size_of partC = 512
-size_of partD = 512
+size_of part_a = 512
+size_of part_b = 256
+size_of part_c = 512
+size_of part_d = 512
 
 part_long : (part : Part) (bytes : List ℕ) → length bytes ≡ record_bytes → length (bytes_of part bytes) ≡ size_of part
 unfolding size_of
-part_long partA bytes e = length-take-le 512 (drop 8 bytes) (omega (arith, length-drop 8 bytes, e))
-part_long partB bytes e = length-take-le 256 (drop 520 bytes) (omega (arith, length-drop 520 bytes, e))
-part_long partC bytes e = length-take-le 512 (drop 776 bytes) (omega (arith, length-drop 776 bytes, e))
-part_long partD bytes e = length-take-le 512 (drop 1288 bytes) (omega (arith, length-drop 1288 bytes, e))
+part_long part_a bytes e = length-take-le 512 (drop 8 bytes) (omega (arith, length-drop 8 bytes, e))
+part_long part_b bytes e = length-take-le 256 (drop 520 bytes) (omega (arith, length-drop 520 bytes, e))
+part_long part_c bytes e = length-take-le 512 (drop 776 bytes) (omega (arith, length-drop 776 bytes, e))
+part_long part_d bytes e = length-take-le 512 (drop 1288 bytes) (omega (arith, length-drop 1288 bytes, e))
 
 three : (xs : List ℕ) → 3 ≤ length xs → take 3 xs ≡ get_or xs 0 0 ∷ get_or xs 1 0 ∷ get_or xs 2 0 ∷ []
 three [] h = absurd (omega arith)
@@ -141,5 +141,5 @@ module _ (xs ys : List ℕ) (xs-long : length xs ≡ record_bytes) (ys-long : le
   pub nothing_else : xs ≡ ys
   nothing_else =
       one_after_another xs xs-long
-      ∙ ap₂ ◌++◌ same_head (ap₂ ◌++◌ same_reserved (ap₂ ◌++◌ (same_part partA) (ap₂ ◌++◌ (same_part partB) (ap₂ ◌++◌ (same_part partC) (same_part partD)))))
+      ∙ ap₂ ◌++◌ same_head (ap₂ ◌++◌ same_reserved (ap₂ ◌++◌ (same_part part_a) (ap₂ ◌++◌ (same_part part_b) (ap₂ ◌++◌ (same_part part_c) (same_part part_d)))))
       ∙ sym (one_after_another ys ys-long)

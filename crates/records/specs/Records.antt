@@ -27,13 +27,13 @@ abbrev pub reserved : (bytes : List ℕ) → List ℕ
 reserved bytes = take 5 (drop 3 bytes)
 
 pub data Part : Type 0 where
-  partA partB partC partD : Part
+  part_a part_b part_c part_d : Part
 
 abbrev pub bytes_of : Part → (bytes : List ℕ) → List ℕ
-bytes_of partA bytes = take 512 (drop 8 bytes)
-bytes_of partB bytes = take 256 (drop 520 bytes)
-bytes_of partC bytes = take 512 (drop 776 bytes)
-bytes_of partD bytes = take 512 (drop 1288 bytes)
+bytes_of part_a bytes = take 512 (drop 8 bytes)
+bytes_of part_b bytes = take 256 (drop 520 bytes)
+bytes_of part_c bytes = take 512 (drop 776 bytes)
+bytes_of part_d bytes = take 512 (drop 1288 bytes)
 
 -- little-endian words,
 unfoldable pub word_at : (bytes : List ℕ) → (n : ℕ) → ℕ
@@ -44,10 +44,10 @@ words_in count bytes = tab count (word_at bytes)
 
 -- unused tails zero. A part has the words that its kind needs, and behind them its tail.
 abbrev pub role_in : Part → ℕ
-role_in partA = 0
-role_in partB = 1
-role_in partC = 2
-role_in partD = 2
+role_in part_a = 0
+role_in part_b = 1
+role_in part_c = 2
+role_in part_d = 2
 
 abbrev pub words_used : Part → (bytes : List ℕ) → ℕ
 words_used part bytes = words_needed (kind_in bytes) (role_in part)
@@ -63,7 +63,7 @@ abbrev pub not_zero : List ℕ → Test
 not_zero bytes = somewhere (length bytes) (λ i. differs (get_or bytes i 0) 0)
 
 abbrev pub stray_tail : (bytes : List ℕ) → Test
-stray_tail bytes = either (not_zero (tail partA bytes)) (either (not_zero (tail partB bytes)) (either (not_zero (tail partC bytes)) (not_zero (tail partD bytes))))
+stray_tail bytes = either (not_zero (tail part_a bytes)) (either (not_zero (tail part_b bytes)) (either (not_zero (tail part_c bytes)) (not_zero (tail part_d bytes))))
 
 abbrev pub of_arithmetic : (kind : ℕ) → Test
 of_arithmetic kind = both (within kind 1 kinds) (arithmetic kind)

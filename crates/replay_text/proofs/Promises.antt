@@ -22,7 +22,7 @@ use Rattle.step_work.proofs.Matrices.{legal, stepped_length, stepped_lt}
 use Rattle.step.specs.StepCalls.{bad_selectors, selector_refusals, buffer_refusals, step_call, plain_call}
 use Rattle.step.proofs.Accepted.{ready}
 use Rattle.step.proofs.Promises.{result_at_lem}
-use Rattle.records.specs.Records.{record_bytes, kind_in, signs_in, mode_in, reserved, partA, partB, partC, partD, logged, not_zero, of_arithmetic, unused_not_zero, asks_plain, mode_asked, record_refusals}
+use Rattle.records.specs.Records.{record_bytes, kind_in, signs_in, mode_in, reserved, part_a, part_b, part_c, part_d, logged, not_zero, of_arithmetic, unused_not_zero, asks_plain, mode_asked, record_refusals}
 use Rattle.records.proofs.Laws.{logged_length, logged_lt, for_own, for_plain}
 use Rattle.replay_text.specs.Verdicts.{right_d, Compared, ok, wrong, compared, FirstDiffering, replay_call, verdict_of, told_replay}
 use Rattle.replay_text.specs.Text.{record_at, lines_of, whole_records, printed_from, printed}
@@ -51,11 +51,11 @@ module _ (bytes : List ℕ) where
   refused_exactly_when = refused_when (replay_call bytes)
 
   -- a verdict that is no refusal is what was compared
-  not_refused : (x : Compared) → (verdict_of bytes ≡ given x) ↔ (NoneSays (record_refusals bytes) × (compared kind (logged partD bytes) (right_d bytes) ≡ x))
+  not_refused : (x : Compared) → (verdict_of bytes ≡ given x) ↔ (NoneSays (record_refusals bytes) × (compared kind (logged part_d bytes) (right_d bytes) ≡ x))
   unfolding verdict_of
   not_refused x = (there, λ p. (given_when (replay_call bytes)).1 p.0 ∙ ap given p.1)
     where
-      there : answer (replay_call bytes) ≡ given x → NoneSays (record_refusals bytes) × (compared kind (logged partD bytes) (right_d bytes) ≡ x)
+      there : answer (replay_call bytes) ≡ given x → NoneSays (record_refusals bytes) × (compared kind (logged part_d bytes) (right_d bytes) ≡ x)
       there e =
           let is = first_gives (record_refusals bytes) (replay_call bytes).gives (sym e) in
           ((given_when (replay_call bytes)).0 (e ∙ ap given is), sym is)
@@ -68,63 +68,63 @@ module _ (bytes : List ℕ) where
   taken none = ready kind signs (mode_asked bytes) (accepted none).1
 
   -- 'The verdict is `ok` exactly when the record isn't refused and D is the right answer', every word of it.
-  pub ok_exactly_when : Fitting 8 bytes → (verdict_of bytes ≡ given ok) ↔ (NoneSays (record_refusals bytes) × (logged partD bytes ≡ right_d bytes))
+  pub ok_exactly_when : Fitting 8 bytes → (verdict_of bytes ≡ given ok) ↔ (NoneSays (record_refusals bytes) × (logged part_d bytes ≡ right_d bytes))
   unfolding right_d
   ok_exactly_when fit =
       (λ e. let p = (not_refused ok).0 e in (p.0, (same p.0).0 p.1), λ p. (not_refused ok).1 (p.0, (same p.0).1 p.1))
     where
-      same : NoneSays (record_refusals bytes) → (compared kind (logged partD bytes) (right_d bytes) ≡ ok) ↔ (logged partD bytes ≡ right_d bytes)
+      same : NoneSays (record_refusals bytes) → (compared kind (logged part_d bytes) (right_d bytes) ≡ ok) ↔ (logged part_d bytes ≡ right_d bytes)
       same none =
           let of = (taken none).of in
-          two.ok_when kind (legal kind of 2 (omega arith)) (logged partD bytes) (right_d bytes)
-          (λ x _. logged_lt bytes fit partD x) (λ x _. stepped_lt kind of signs (mode_asked bytes) _ _ _ x)
-          (logged_length partD bytes) (stepped_length kind of signs (mode_asked bytes) _ _ _)
+          two.ok_when kind (legal kind of 2 (omega arith)) (logged part_d bytes) (right_d bytes)
+          (λ x _. logged_lt bytes fit part_d x) (λ x _. stepped_lt kind of signs (mode_asked bytes) _ _ _ x)
+          (logged_length part_d bytes) (stepped_length kind of signs (mode_asked bytes) _ _ _)
 
   -- '`wrong` with the first differing row and column in row-major order': exactly when it isn't refused, the matrices differ at (r, c), and agree
   -- at every place before it.
   pub wrong_exactly_when : (row column : ℕ)
-      → (verdict_of bytes ≡ given (wrong row column)) ↔ (NoneSays (record_refusals bytes) × FirstDiffering kind (logged partD bytes) (right_d bytes) row column)
+      → (verdict_of bytes ≡ given (wrong row column)) ↔ (NoneSays (record_refusals bytes) × FirstDiffering kind (logged part_d bytes) (right_d bytes) row column)
   wrong_exactly_when row column =
       (λ e. let p = (not_refused (wrong row column)).0 e in (p.0, (same p.0).0 p.1), λ p. (not_refused (wrong row column)).1 (p.0, (same p.0).1 p.1))
     where
       same : NoneSays (record_refusals bytes)
-          → (compared kind (logged partD bytes) (right_d bytes) ≡ wrong row column) ↔ FirstDiffering kind (logged partD bytes) (right_d bytes) row column
-      same none = two.wrong_when kind (legal kind (taken none).of 2 (omega arith)) (logged partD bytes) (right_d bytes) row column
+          → (compared kind (logged part_d bytes) (right_d bytes) ≡ wrong row column) ↔ FirstDiffering kind (logged part_d bytes) (right_d bytes) row column
+      same none = two.wrong_when kind (legal kind (taken none).of 2 (omega arith)) (logged part_d bytes) (right_d bytes) row column
 
   -- 'Work out D from its own selectors, A, B and C': the right answer is what the step gives for these words,
   module _ (none : NoneSays (record_refusals bytes)) where
-    lengths : Passes (buffer_refusals kind (length (logged partA bytes)) (length (logged partB bytes)) (length (logged partC bytes)) (length (logged partD bytes)))
-    lengths = (logged_length partA bytes, (logged_length partB bytes, (logged_length partC bytes, (logged_length partD bytes, tt))))
+    lengths : Passes (buffer_refusals kind (length (logged part_a bytes)) (length (logged part_b bytes)) (length (logged part_c bytes)) (length (logged part_d bytes)))
+    lengths = (logged_length part_a bytes, (logged_length part_b bytes, (logged_length part_c bytes, (logged_length part_d bytes, tt))))
 
     as_asked : (m : ℕ) → mode_asked bytes ≡ m
-        → answer (step_call kind signs m (logged partA bytes) (logged partB bytes) (logged partC bytes) (logged partD bytes)) ≡ given (right_d bytes)
+        → answer (step_call kind signs m (logged part_a bytes) (logged part_b bytes) (logged part_c bytes) (logged part_d bytes)) ≡ given (right_d bytes)
     unfolding right_d
     as_asked m e =
-        let rest = buffer_refusals kind (length (logged partA bytes)) (length (logged partB bytes)) (length (logged partC bytes)) (length (logged partD bytes)) in
+        let rest = buffer_refusals kind (length (logged part_a bytes)) (length (logged part_b bytes)) (length (logged part_c bytes)) (length (logged part_d bytes)) in
         subst
-        (λ (m : ℕ). answer (step_call kind signs m (logged partA bytes) (logged partB bytes) (logged partC bytes) (logged partD bytes)) ≡ given (right_d bytes))
+        (λ (m : ℕ). answer (step_call kind signs m (logged part_a bytes) (logged part_b bytes) (logged part_c bytes) (logged part_d bytes)) ≡ given (right_d bytes))
         e
         (goes_on (selector_refusals kind signs (mode_asked bytes)) rest (right_d bytes) (accepted none).1 ∙ passing rest (right_d bytes) lengths)
 
     pub right_by_step : ¬ Says (asks_plain signs mode)
-        → answer (step_call kind signs mode (logged partA bytes) (logged partB bytes) (logged partC bytes) (logged partD bytes)) ≡ given (right_d bytes)
+        → answer (step_call kind signs mode (logged part_a bytes) (logged part_b bytes) (logged part_c bytes) (logged part_d bytes)) ≡ given (right_d bytes)
     right_by_step own = as_asked mode (for_own signs mode own)
 
     -- and 'mode byte 255 with signs 0 asks for the plain step'.
     pub right_by_plain_step : Says (asks_plain signs mode)
-        → answer (plain_call kind (logged partA bytes) (logged partB bytes) (logged partC bytes) (logged partD bytes)) ≡ given (right_d bytes)
+        → answer (plain_call kind (logged part_a bytes) (logged part_b bytes) (logged part_c bytes) (logged part_d bytes)) ≡ given (right_d bytes)
     unfolding right_d
     right_by_plain_step plain =
-        let call = plain_call kind (logged partA bytes) (logged partB bytes) (logged partC bytes) (logged partD bytes) in
+        let call = plain_call kind (logged part_a bytes) (logged part_b bytes) (logged part_c bytes) (logged part_d bytes) in
         passing call.refusals call.gives ((accepted none).1.0, ((accepted none).1.1.0, lengths))
-        ∙ ap given (ap₂ (λ (s m : ℕ). stepped kind s m (logged partA bytes) (logged partB bytes) (logged partC bytes)) (sym plain.0) (sym (for_plain signs mode plain)))
+        ∙ ap given (ap₂ (λ (s m : ℕ). stepped kind s m (logged part_a bytes) (logged part_b bytes) (logged part_c bytes)) (sym plain.0) (sym (for_plain signs mode plain)))
 
     -- So the right matrix has at every row and column what the rules of a step say.
     pub right_at : (row column : ℕ) → row < rows_at kind 2 → column < columns_at kind 2
         → entry_in kind 2 (right_d bytes) row column
-        ≡ result_at kind signs (mode_asked bytes) (logged partA bytes) (logged partB bytes) (logged partC bytes) row column
+        ≡ result_at kind signs (mode_asked bytes) (logged part_a bytes) (logged part_b bytes) (logged part_c bytes) row column
     unfolding right_d
-    right_at row column hr hc = result_at_lem kind signs (mode_asked bytes) (taken none) (logged partA bytes) (logged partB bytes) (logged partC bytes) row column hr hc
+    right_at row column hr hc = result_at_lem kind signs (mode_asked bytes) (taken none) (logged part_a bytes) (logged part_b bytes) (logged part_c bytes) row column hr hc
 
   -- 255 with other signs is 4.
   pub plain_with_signs : mode ≡ 255 → signs ≢ 0 → Says (bad_selectors kind signs (mode_asked bytes))

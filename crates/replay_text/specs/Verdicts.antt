@@ -8,13 +8,13 @@ use Rattle.answers.specs.Calls.{Call, answer}
 use Rattle.kinds.specs.Kinds.{rows_at, columns_at}
 use Rattle.buffers.specs.Buffers.{index, entries_needed}
 use Rattle.step_work.specs.Step.{entry_in, stepped}
-use Rattle.records.specs.Records.{partA, partB, partC, partD, kind_in, signs_in, mode_asked, logged, record_refusals}
+use Rattle.records.specs.Records.{part_a, part_b, part_c, part_d, kind_in, signs_in, mode_asked, logged, record_refusals}
 use Rattle.replay_text.specs.declared.Replayed.{Replayed}
 use Rattle.replay_text.specs.declared.Replayed.TheVariants.{Right, Wrong, Refused as Replayed-as-Refused}
 
 -- 'Work out D from its own selectors, A, B and C': the words that D ought to have.
 unfoldable pub right_d : (bytes : List ℕ) → List ℕ
-right_d bytes = stepped (kind_in bytes) (signs_in bytes) (mode_asked bytes) (logged partA bytes) (logged partB bytes) (logged partC bytes)
+right_d bytes = stepped (kind_in bytes) (signs_in bytes) (mode_asked bytes) (logged part_a bytes) (logged part_b bytes) (logged part_c bytes)
 
 -- `ok`, or `wrong` with a row and a column
 pub data Compared : Type 0 where
@@ -43,7 +43,7 @@ pub record FirstDiffering (kind : ℕ) (log right : List ℕ) (row column : ℕ)
 
 -- a record's refusals in their order, and what is said of one that is not refused
 abbrev pub replay_call : (bytes : List ℕ) → Call Compared
-replay_call bytes = record { refusals = record_refusals bytes; gives = compared (kind_in bytes) (logged partD bytes) (right_d bytes) }
+replay_call bytes = record { refusals = record_refusals bytes; gives = compared (kind_in bytes) (logged part_d bytes) (right_d bytes) }
 
 unfoldable pub verdict_of : (bytes : List ℕ) → Answer Compared
 verdict_of bytes = answer (replay_call bytes)

@@ -3,7 +3,7 @@ use Rattle.std.specs.Prelude.{ℕ, ◌+◌, ◌*◌, ◌/◌, ◌%◌, List}
 use Rattle.kinds.specs.Rule.{lane_of, element_of}
 use Rattle.buffers.specs.Buffers.{words_needed}
 use Rattle.step_work.specs.Step.{stepped}
-use Rattle.records.specs.Records.{Part, partA, partB, partC, partD, bytes_of, words_in, role_in}
+use Rattle.records.specs.Records.{Part, part_a, part_b, part_c, part_d, bytes_of, words_in, role_in}
 use Rattle.replay_text.specs.Verdicts.{Compared, compared}
 
 -- the word of D in which a place stands, by the words of a lane and the halves of eight rows: eight places are a row, and an element is a word
@@ -15,7 +15,7 @@ abbrev pub part_words : (kind : ℕ) → Part → (bytes : List ℕ) → List �
 part_words kind part bytes = words_in (words_needed kind (role_in part)) (bytes_of part bytes)
 
 abbrev pub step_words : (kind signs mode : ℕ) → (bytes : List ℕ) → List ℕ
-step_words kind signs mode bytes = stepped kind signs mode (part_words kind partA bytes) (part_words kind partB bytes) (part_words kind partC bytes)
+step_words kind signs mode bytes = stepped kind signs mode (part_words kind part_a bytes) (part_words kind part_b bytes) (part_words kind part_c bytes)
 
 abbrev pub compared_by : (kind signs mode : ℕ) → (bytes : List ℕ) → Compared
-compared_by kind signs mode bytes = compared kind (part_words kind partD bytes) (step_words kind signs mode bytes)
+compared_by kind signs mode bytes = compared kind (part_words kind part_d bytes) (step_words kind signs mode bytes)

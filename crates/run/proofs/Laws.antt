@@ -10,7 +10,7 @@ use lib.ListN.{length, get_or, take, drop, length-append, length-drop}
 use Rattle.laws.specs.Choice.{if◌then◌else◌, ◌=?◌}
 use Rattle.laws.specs.Lists.{tab}
 use Rattle.laws.proofs.Lists.{length_tab, get_or_tab}
-use Rattle.kinds.specs.Kinds.{lanes, words, roleC, one_bit_element, int4_element, one_bit, Arithmetic}
+use Rattle.kinds.specs.Kinds.{lanes, words, role_c, one_bit_element, int4_element, one_bit, Arithmetic}
 use Rattle.answers.specs.Refusals.{given}
 use Rattle.answers.specs.Right.{Denies, Passes}
 use Rattle.answers.specs.Tests.{Says, holds}
@@ -31,7 +31,7 @@ use Rattle.run.specs.Workers.{markable, mark_from}
 
 -- the used sums of every arithmetic kind are among the 128
 pub used_le : (k : ℕ) → Arithmetic k → words_needed k 2 ≤ 128
-used_le k ok = among_≤ k ok.low ok.high one_bit_element int4_element ok.is (λ e. lanes * words e roleC) (λ e. 128) tt
+used_le k ok = among_≤ k ok.low ok.high one_bit_element int4_element ok.is (λ e. lanes * words e role_c) (λ e. 128) tt
 
 pub length_zeros : length zeros ≡ 128
 unfolding zeros

@@ -8,7 +8,7 @@ use lib.ListN.{drop}
 use Rattle.answers.specs.Promised.{Tells}
 use Rattle.answers.proofs.Shows.{one_held, other_tells}
 use Rattle.buffers.specs.Buffers.{words_needed}
-use Rattle.records.specs.Records.{Part, partA, partB, partC, partD, bytes_of, role_in, tail, not_zero}
+use Rattle.records.specs.Records.{Part, part_a, part_b, part_c, part_d, bytes_of, role_in, tail, not_zero}
 use Rattle.records.proofs.Laws.{room_A, room_B, room_C}
 use Rattle.records.proofs.stray_tail.Statement.{statement}
 use Rattle.records.proofs.stray_tail.Tie as tie
@@ -25,17 +25,17 @@ module _ (o : tie.After-of) where
       → Tells (not_zero (drop (4 * words) (bytes_of part bytes))) b → Tells (not_zero (tail part bytes)) b
   told part words {b} e = subst (λ (n : ℕ). Tells (not_zero (drop (4 * n) (bytes_of part bytes))) b) (e ∙ ap (λ (k : ℕ). words_needed k (role_in part)) s.pre.1)
 
-  of_A : {b : Bool} → Tells (not_zero (drop (4 * o.of.result.a) (bytes_of partA bytes))) b → Tells (not_zero (tail partA bytes)) b
-  of_A = told partA o.of.result.a o.of.ensures.0
+  of_A : {b : Bool} → Tells (not_zero (drop (4 * o.of.result.a) (bytes_of part_a bytes))) b → Tells (not_zero (tail part_a bytes)) b
+  of_A = told part_a o.of.result.a o.of.ensures.0
 
-  of_B : {b : Bool} → Tells (not_zero (drop (4 * o.of.result.b) (bytes_of partB bytes))) b → Tells (not_zero (tail partB bytes)) b
-  of_B = told partB o.of.result.b o.of.ensures.1
+  of_B : {b : Bool} → Tells (not_zero (drop (4 * o.of.result.b) (bytes_of part_b bytes))) b → Tells (not_zero (tail part_b bytes)) b
+  of_B = told part_b o.of.result.b o.of.ensures.1
 
-  of_C : {b : Bool} → Tells (not_zero (drop (4 * o.of.result.c) (bytes_of partC bytes))) b → Tells (not_zero (tail partC bytes)) b
-  of_C = told partC o.of.result.c o.of.ensures.2
+  of_C : {b : Bool} → Tells (not_zero (drop (4 * o.of.result.c) (bytes_of part_c bytes))) b → Tells (not_zero (tail part_c bytes)) b
+  of_C = told part_c o.of.result.c o.of.ensures.2
 
-  of_D : {b : Bool} → Tells (not_zero (drop (4 * o.of.result.c) (bytes_of partD bytes))) b → Tells (not_zero (tail partD bytes)) b
-  of_D = told partD o.of.result.c o.of.ensures.2
+  of_D : {b : Bool} → Tells (not_zero (drop (4 * o.of.result.c) (bytes_of part_d bytes))) b → Tells (not_zero (tail part_d bytes)) b
+  of_D = told part_d o.of.result.c o.of.ensures.2
 
 of-requires : tie.Need-of-requires
 of-requires c κs = search rules

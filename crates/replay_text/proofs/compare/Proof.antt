@@ -8,7 +8,7 @@ use lib.ListN.{length, take, drop, length-append, length-drop}
 use lib.Seq.{length-take-le, take_at}
 use Rattle.answers.specs.Refusals.{given}
 use Rattle.step_work.proofs.Matrices.{stepped_length}
-use Rattle.records.specs.Records.{partD, bytes_of, words_in}
+use Rattle.records.specs.Records.{part_d, bytes_of, words_in}
 use Rattle.records.proofs.Laws.{room_C}
 use Rattle.replay_text.specs.Verdicts.{compared}
 use Rattle.replay_text.specs.Workers.{part_words, step_words}
@@ -42,8 +42,8 @@ module _ (w : tie.After-work) where
   room : n ≤ 128
   room = omega (arith, o.of.ensures.2, room_C kind s.pre.0.of)
 
-  log_is : take n w.before.before.words_of.result ≡ part_words kind partD bytes
-  log_is = w.before.before.words_of.ensures.1 ∙ ap (λ (m : ℕ). words_in m (bytes_of partD bytes)) o.of.ensures.2
+  log_is : take n w.before.before.words_of.result ≡ part_words kind part_d bytes
+  log_is = w.before.before.words_of.ensures.1 ∙ ap (λ (m : ℕ). words_in m (bytes_of part_d bytes)) o.of.ensures.2
 
   long : length words ≡ n
   long = ap length w.work.ensures ∙ stepped_length kind s.pre.0.of s.args.signs.0 s.args.mode.0 _ _ _ ∙ sym o.of.ensures.2
@@ -96,7 +96,7 @@ slice-aggregate-first-wrong-2 c = sym (length-take-le _ _ (subst (λ (m : ℕ). 
 first-wrong-requires : tie.Need-first-wrong-requires
 first-wrong-requires c κs =
     let w = c.before.before.before in
-    ((s w).requires.0.of, (s w).requires.1, ap length (log_is w) ∙ part_length (kind w) partD (bytes w), ap length (right_is w _) ∙ stepped_length (kind w) (s w).requires.0.of _ _ _ _ _)
+    ((s w).requires.0.of, (s w).requires.1, ap length (log_is w) ∙ part_length (kind w) part_d (bytes w), ap length (right_is w _) ∙ stepped_length (kind w) (s w).requires.0.of _ _ _ _ _)
 
 returns : tie.Need-returns
 returns c =

@@ -7,7 +7,7 @@ use lib.ListN.{length, take}
 use lib.Seq.{length-take-le}
 use Rattle.step_work.specs.Step.{stepped}
 use Rattle.step_work.specs.Workers.{Sized}
-use Rattle.records.specs.Records.{partA, partB, partC, bytes_of, words_in}
+use Rattle.records.specs.Records.{part_a, part_b, part_c, bytes_of, words_in}
 use Rattle.records.proofs.Laws.{room_A, room_B, room_C}
 use Rattle.replay_text.specs.Workers.{part_words}
 use Rattle.replay_text.proofs.Compared.{part_length}
@@ -28,14 +28,14 @@ module _ (w : tie.After-words-of3) where
   abbrev bytes : List ℕ
   bytes = s.args.«record».now
 
-  a_is : take o.of.result.a w.before.before.before.before.words_of.result ≡ part_words kind partA bytes
-  a_is = w.before.before.before.before.words_of.ensures.1 ∙ ap (λ (n : ℕ). words_in n (bytes_of partA bytes)) o.of.ensures.0
+  a_is : take o.of.result.a w.before.before.before.before.words_of.result ≡ part_words kind part_a bytes
+  a_is = w.before.before.before.before.words_of.ensures.1 ∙ ap (λ (n : ℕ). words_in n (bytes_of part_a bytes)) o.of.ensures.0
 
-  b_is : take o.of.result.b w.before.before.words-of2.result ≡ part_words kind partB bytes
-  b_is = w.before.before.words-of2.ensures.1 ∙ ap (λ (n : ℕ). words_in n (bytes_of partB bytes)) o.of.ensures.1
+  b_is : take o.of.result.b w.before.before.words-of2.result ≡ part_words kind part_b bytes
+  b_is = w.before.before.words-of2.ensures.1 ∙ ap (λ (n : ℕ). words_in n (bytes_of part_b bytes)) o.of.ensures.1
 
-  c_is : take o.of.result.c w.words-of3.result ≡ part_words kind partC bytes
-  c_is = w.words-of3.ensures.1 ∙ ap (λ (n : ℕ). words_in n (bytes_of partC bytes)) o.of.ensures.2
+  c_is : take o.of.result.c w.words-of3.result ≡ part_words kind part_c bytes
+  c_is = w.words-of3.ensures.1 ∙ ap (λ (n : ℕ). words_in n (bytes_of part_c bytes)) o.of.ensures.2
 
 of-requires : tie.Need-of-requires
 of-requires c κs = search rules
@@ -98,7 +98,7 @@ work-requires : tie.Need-work-requires
 work-requires c κs =
     let w = c.before.before.before.before.before in
     let start = s w in
-    let lengths : Sized (kind w) _ _ _ _ = record { of_a = ap length (a_is w) ∙ part_length (kind w) partA (bytes w); of_b = ap length (b_is w) ∙ part_length (kind w) partB (bytes w); of_c = ap length (c_is w) ∙ part_length (kind w) partC (bytes w); of_d = start.pre.3 } in
+    let lengths : Sized (kind w) _ _ _ _ = record { of_a = ap length (a_is w) ∙ part_length (kind w) part_a (bytes w); of_b = ap length (b_is w) ∙ part_length (kind w) part_b (bytes w); of_c = ap length (c_is w) ∙ part_length (kind w) part_c (bytes w); of_d = start.pre.3 } in
     ((start.pre.0, start.pre.1, refl), lengths)
 
 returns : tie.Need-returns
@@ -107,7 +107,7 @@ returns c =
     let stepped_by : (a b c : List ℕ) → List ℕ = stepped (kind w) (s w).args.signs.0 (s w).args.mode.0 in
     c.before.before.before.work.ensures.0
     ∙ ap₂ (λ (a b : List ℕ). stepped_by a b (take (o w).of.result.c w.words-of3.result)) (a_is w) (b_is w)
-    ∙ ap (stepped_by (part_words (kind w) partA (bytes w)) (part_words (kind w) partB (bytes w))) (c_is w)
+    ∙ ap (stepped_by (part_words (kind w) part_a (bytes w)) (part_words (kind w) part_b (bytes w))) (c_is w)
 
 pub work-spec : {M : Type 1} → statement M
 work-spec =
