@@ -1,6 +1,6 @@
 /* Wazimroot: the proved reference for warp-level mma fragments, for programs in C and C++.
 
-   Link target/staticlib/libwazimroot.a, for x86-64 Linux. Every call answers for every value of its numbers and every length of its
+   Link crates/wazimroot/out/libwazimroot.a, for x86-64 Linux. Every call answers for every value of its numbers and every length of its
    buffers. The answer is 0 where the call was accepted; otherwise the refusal's number is in the low 32 bits and its detail in the high 32
    (WZ_NUMBER, WZ_DETAIL). A refused call writes nothing, but for wz_open.
 

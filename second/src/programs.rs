@@ -11,7 +11,7 @@ pub struct Programs {
 }
 
 impl Programs {
-    /// From `target/bin`, or `qemu-x86_64 target/bin`.
+    /// From `FOLDER`, or `qemu-x86_64 FOLDER`.
     pub fn parse(text: &str) -> Option<Programs> {
         let mut words: Vec<String> = text.split_whitespace().map(String::from).collect();
         let folder = words.pop()?;

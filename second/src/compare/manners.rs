@@ -16,6 +16,8 @@ use std::process::{Command, Stdio};
 const NAME: &str = "replay, arguments";
 /// The bytes of the longest path that Linux takes.
 const LONGEST: usize = 4_095;
+/// A name that is no UTF-8 text.
+const ODD: &[u8] = b"\xff\xc3";
 
 /// What is due.
 enum Due<'a> {
@@ -84,8 +86,8 @@ fn lengthened(path: &Path, length: usize) -> OsString {
     OsString::from_vec([&b"/".repeat(length - path.len()), path].concat())
 }
 
-/// Standard input is read where there is no argument or `-`, and otherwise the file, whatever it is
-/// called.
+/// Standard input is read where there is no argument or `-`, and otherwise the file, whatever text it
+/// is called by.
 fn files(asked: &mut Asked, folder: &Folder, [log, other]: &[Log; 2]) -> Result<(), Difference> {
     let (due, other_due) = (&log.all_due(), &other.all_due());
     let path = folder.file(OsStr::new("log"), &log.bytes)?;
@@ -95,8 +97,8 @@ fn files(asked: &mut Asked, folder: &Folder, [log, other]: &[Log; 2]) -> Result<
     asked.ask(&[&path], from(&input)?, Due::Lines(due))?;
     let longest = lengthened(&path, LONGEST);
     asked.ask(&[longest], from(&input)?, Due::Lines(due))?;
-    for name in [&b"-"[..], b"--", b" ", b"a b\n", b"\xff\xc3"] {
-        let path = folder.file(OsStr::from_bytes(name), &log.bytes)?;
+    for name in ["-", "--", " ", "a b\n", "\u{e9}\u{1f4c4}"] {
+        let path = folder.file(OsStr::new(name), &log.bytes)?;
         asked.ask(&[&path], from(&input)?, Due::Lines(due))?;
     }
     asked.ask::<&str>(&[], Stdio::null(), Due::Lines(""))?;
@@ -106,13 +108,14 @@ fn files(asked: &mut Asked, folder: &Folder, [log, other]: &[Log; 2]) -> Result<
 /// What can't be opened or read is said on standard error by its name, and nothing is printed.
 fn failures(asked: &mut Asked, folder: &Folder, log: &Log) -> Result<(), Difference> {
     let path = folder.file(OsStr::new("log"), &log.bytes)?;
-    let [missing, odd] = [&b"missing"[..], b"\xff\xc3 missing"].map(OsStr::from_bytes);
+    let odd = folder.file(OsStr::from_bytes(ODD), &log.bytes)?;
+    let missing = "No such file or directory (os error 2)";
     for (name, what) in [
-        (folder.path().join(missing), "No such file or directory"),
-        (folder.path().join(odd), "No such file or directory"),
-        ("--help".into(), "No such file or directory"),
-        (path.join("log"), "Not a directory"),
-        (folder.path().into(), "Is a directory"),
+        (folder.path().join("missing"), missing),
+        ("--help".into(), missing),
+        (path.join("log"), "Not a directory (os error 20)"),
+        (folder.path().into(), "Is a directory (os error 21)"),
+        (odd, "invalid filename"),
     ] {
         let of = name.as_os_str().as_bytes();
         asked.ask(&[&name], from(&path)?, Due::Failure(of, what))?;
@@ -122,12 +125,12 @@ fn failures(asked: &mut Asked, folder: &Folder, log: &Log) -> Result<(), Differe
         asked.ask(&[name], from(&path)?, Due::Begun("replay: "))?;
     }
     for words in [&[][..], &["-"]] {
-        let due = Due::Failure(b"standard input", "Is a directory");
+        let due = Due::Failure(b"standard input", "Is a directory (os error 21)");
         asked.ask(words, from(folder.path())?, due)?;
         let mut unread = asked
             .programs
             .command_by("exec \"$@\" 0>/dev/null", "replay");
-        let due = Due::Failure(b"standard input", "Bad file descriptor");
+        let due = Due::Failure(b"standard input", "Bad file descriptor (os error 9)");
         asked.run(unread.args(words), Stdio::null(), due)?;
     }
     Ok(())
