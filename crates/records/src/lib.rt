@@ -1,5 +1,6 @@
 // Step records, as the card's logger writes them: 1,800 bytes with kind, signs, mode, five reserved bytes, then the words of A, B, C and D.
 #![tactic(auto)]
+
 ghost use Rattle.std.specs.Prelude.{◌≡◌, ◌+◌, ◌*◌, ◌^◌, ◌≤◌, length, drop};
 ghost use Rattle.answers.specs.Promised.{Replies, Tells};
 ghost use Rattle.kinds.specs.Kinds.{entry_of, Arithmetic};
@@ -36,6 +37,7 @@ fn joined(low: u8, second: u8, third: u8, high: u8) -> u32
 }
 
 // Word n of some bytes, low byte first.
+#[tactic(auto, unfolding(crate::specs::Records::word_at))]
 pub fn word_at(bytes: &[u8], n: usize) -> u32
     requires { 4 * n + 4 ≤ length bytes.now }
     ensures { result ≡ word_at bytes.now n }
