@@ -7,26 +7,23 @@ use Rattle.run.proofs.Run.fed.Goals.{After-of-n}
 
 -- the used ones are among the 128 sums
 module _ (c : After-of-n) where
-  long : length c.args.self.sums ≡ 128
-  long = search rules
-
-  inside : c.of-n.result.c ≤ length c.args.self.sums
-  inside = omega (arith, long, used_le c.args.self.kind.0 c.requires.ready.0.of, c.of-n.ensures.2)
+  inside : (c.of-n.result.c ≤ 128) × (length c.args.self.sums ≡ 128)
+  inside = (omega (arith, used_le c.args.self.kind.0 c.requires.ready.0.of, c.of-n.ensures.2), search rules)
 
 pub slice_bounds-c-end : goal.slice_bounds-c-end
-slice_bounds-c-end c = inside (goal.at.slice_bounds-c-end c).After-of-n
+slice_bounds-c-end c = omega (arith, inside (goal.at.slice_bounds-c-end c).After-of-n)
 
 pub slice_bounds-work-end : goal.slice_bounds-work-end
-slice_bounds-work-end c = sym (length-take-le _ _ (inside (goal.at.slice_bounds-work-end c).After-of-n))
+slice_bounds-work-end c = sym (length-take-le _ _ (omega (arith, inside (goal.at.slice_bounds-work-end c).After-of-n)))
 
 pub slice_bounds-d-end : goal.slice_bounds-d-end
-slice_bounds-d-end c = inside (goal.at.slice_bounds-d-end c).After-of-n
+slice_bounds-d-end c = omega (arith, inside (goal.at.slice_bounds-d-end c).After-of-n)
 
 pub slice_bounds-work-end-2 : goal.slice_bounds-work-end-2
-slice_bounds-work-end-2 c = sym (length-take-le _ _ (inside (goal.at.slice_bounds-work-end-2 c).After-of-n))
+slice_bounds-work-end-2 c = sym (length-take-le _ _ (omega (arith, inside (goal.at.slice_bounds-work-end-2 c).After-of-n)))
 
 pub returns : goal.returns
 returns c =
     let n = c.of-n in
-    let long = length-take-le _ _ (inside (goal.at.returns c).After-of-n) in
+    let long = length-take-le _ _ (omega (arith, inside (goal.at.returns c).After-of-n)) in
     fed_is c.args.self n.result.c _ _ _ _ (c.work.auto.d ∙ long) n.ensures.2 c.work.ensures.words c.work.ensures.marks
