@@ -1,5 +1,6 @@
 // An answer and a run as the words that C gets: the code of a verdict, a place, a pair, and the 136 words of a run.
 #![tactic(auto)]
+
 ghost use Rattle.std.specs.Prelude.{◌≡◌, ◌+◌, ◌*◌, ◌^◌, ◌≤◌, [], ◌∷◌, length, drop};
 ghost use Rattle.answers.specs.Refusals.{number_of, detail_of, told, after};
 ghost use Rattle.answers.specs.Promised.{code_of};
@@ -34,6 +35,7 @@ pub fn put_pair(out: &mut [u32], first: u32, second: u32)
 }
 
 // A run out of its words.
+#[tactic(auto, unfolding(crate::specs::Words::run_in), using(crate::proofs::Laws::lent_last))]
 pub fn taken(words: &[u32]) -> Run
     requires { length words.now ≡ 136 }
     ensures { result ≡ run_in words.now }
@@ -64,6 +66,7 @@ pub fn put_four(words: &mut [u32], first: u32, second: u32, third: u32, fourth: 
 }
 
 // A run into its words.
+#[tactic(auto, unfolding(crate::specs::Words::words_of), using(crate::proofs::Laws::marks_behind))]
 pub fn put(run: Run, words: &mut [u32])
     requires { length words.old ≡ 136 }
     ensures { words.new ≡ words_of run }
