@@ -1,5 +1,6 @@
 // What the replay program prints for its input: a line for each step record, by the D that it ought to have.
 #![tactic(auto)]
+
 ghost use Rattle.std.specs.Prelude.{◌≡◌, ◌+◌, ◌*◌, ◌^◌, ◌<◌, ◌≤◌, length, take};
 ghost use Rattle.answers.specs.Refusals.{given};
 ghost use Rattle.answers.specs.Promised.{Replies};

@@ -10,7 +10,7 @@ use lib.ListN.{length, get_or, take, drop, length-append, length-drop}
 use Rattle.laws.specs.Choice.{if◌then◌else◌, ◌=?◌}
 use Rattle.laws.specs.Lists.{tab}
 use Rattle.laws.proofs.Lists.{length_tab, get_or_tab}
-use Rattle.kinds.specs.Kinds.{lanes, words, role_c, one_bit_element, int4_element, one_bit, Arithmetic}
+use Rattle.kinds.specs.Kinds.{entry_of, lanes, words, role_c, one_bit_element, int4_element, one_bit, Arithmetic}
 use Rattle.answers.specs.Refusals.{given}
 use Rattle.answers.specs.Right.{Denies, Passes}
 use Rattle.answers.specs.Tests.{Says, holds}
@@ -60,6 +60,21 @@ opened_long kind signs mode c e =
     let p = passes (open_refusals kind signs mode (length c)) tt e in
     let n : length c ≡ words_needed kind 2 = search p in
     used_long c zeros (omega (arith, n, used_le kind (ready kind signs mode (search p)).of)) length_zeros
+
+-- how many marks may be set, as the code tells it: none in mode 0 and in the one-bit kinds
+pub markable_wraps : (kind mode : ℕ) → mode ≡ 0 → markable kind mode ≡ 0
+unfolding markable
+markable_wraps kind mode e = ap (λ (t : Bool). if t then 0 else words_needed kind 2) ((says (cannot_clamp kind mode)).1 (inl e))
+
+pub markable_bits : (kind mode : ℕ) → (entry_of kind).element ≡ one_bit_element → markable kind mode ≡ 0
+unfolding markable
+markable_bits kind mode e = ap (λ (t : Bool). if t then 0 else words_needed kind 2) ((says (cannot_clamp kind mode)).1 (inr e))
+
+pub markable_words : (kind mode : ℕ) → (mode ≡ 0 → ⊥) → ((entry_of kind).element ≡ one_bit_element → ⊥) → markable kind mode ≡ words_needed kind 2
+unfolding markable
+markable_words kind mode n o = ap (λ (t : Bool). if t then 0 else words_needed kind 2) (deny (cannot_clamp kind mode) (n, o))
+
+pub ruleset markables = (used_le, markable_wraps, markable_bits, markable_words)
 
 -- no stray mark: one that is set belongs to a sum, of a run that can clamp
 abbrev pub Unstray : (kind mode : ℕ) (marks : List ℕ) → Type 0

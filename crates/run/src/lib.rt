@@ -102,6 +102,7 @@ impl Run {
     }
 
     // The words of marks in which one may be set: those of the sums, in a run that can clamp.
+    #[tactic(auto, using(crate::proofs::Laws::markables))]
     fn markable(kind: Kind, line: Entry, mode: Mode) -> usize
         requires { Arithmetic kind.0 × (line ≡ entry_of kind.0) }
         ensures { (result ≤ 4) × (result * 32 ≡ markable kind.0 mode.0) }

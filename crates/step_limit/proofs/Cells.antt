@@ -1,6 +1,6 @@
 -- The words of D, one at a place: in mode 0 the word that is congruent to the sum of C's word and a difference, in mode 1 a minimum and a
 -- truncated difference above the lowest number. There the result is inside or not, as the sum above the lowest number says. Assumes nothing.
-use Rattle.std.proofs.Common.{◌≡◌, ℕ, ◌+◌, ◌-◌, ◌%◌, ◌^◌, ◌<◌, ◌≤◌, min, Bool, true, false, ◌⊎◌, ℤ, ◌+ℤ◌, refl, arith}
+use Rattle.std.proofs.Common.{◌≡◌, ℕ, ◌+◌, ◌-◌, ◌%◌, ◌^◌, ◌<◌, ◌≤◌, min, Bool, true, false, ◌⊎◌, inl, inr, sym, ℤ, ◌+ℤ◌, refl, arith}
 use lib.IntN.{sub_ℕ}
 use Rattle.laws.specs.Choice.{if◌then◌else◌, ◌=?◌}
 use Rattle.laws.specs.Integers.{int32, outside}
@@ -31,6 +31,29 @@ module _ (mode c p n : ℕ) (hc : c < 2 ^ 32) where
   pub cut_off : mode ≡ 1 → ((c + 2 ^ 31) % 2 ^ 32 + p < n) ⊎ (2 ^ 32 + n ≤ (c + 2 ^ 31) % 2 ^ 32 + p) → 1 ≡ mark_of mode c (sub_ℕ p n)
   unfolding mark_of
   cut_off m h = rw (m, int_is c hc, sub_add ((c + 2 ^ 31) % 2 ^ 32) (2 ^ 31) p n, outside_is ((c + 2 ^ 31) % 2 ^ 32 + p) n h) refl
+
+-- the word and its mark in each case, as the code tells them apart
+pub cell_wraps : (mode c p n : ℕ) → c < 2 ^ 32 → n ≤ 2 ^ 32 → mode ≡ 0 → cell_of mode c (sub_ℕ p n) ≡ (c + p + (2 ^ 32 - n)) % 2 ^ 32
+cell_wraps mode c p n hc hn m = sym (wrapped mode c p n hc m (omega arith) (omega arith))
+
+pub cell_clamps : (mode c p n : ℕ) → c < 2 ^ 32 → mode ≡ 1
+    → cell_of mode c (sub_ℕ p n) ≡ (min (2 ^ 32 - 1) ((c + 2 ^ 31) % 2 ^ 32 + p - n) + 2 ^ 31) % 2 ^ 32
+cell_clamps mode c p n hc m = sym (clamped mode c p n hc m refl)
+
+pub mark_wraps : (mode c p n : ℕ) → c < 2 ^ 32 → mode ≡ 0 → mark_of mode c (sub_ℕ p n) ≡ 0
+mark_wraps mode c p n hc m = sym (wraps_unmarked mode c p n hc m)
+
+pub mark_inside : (mode c p n : ℕ) → c < 2 ^ 32 → mode ≡ 1 → n ≤ (c + 2 ^ 31) % 2 ^ 32 + p → (c + 2 ^ 31) % 2 ^ 32 + p < 2 ^ 32 + n
+    → mark_of mode c (sub_ℕ p n) ≡ 0
+mark_inside mode c p n hc m low high = sym (inside mode c p n hc m low high)
+
+pub mark_below : (mode c p n : ℕ) → c < 2 ^ 32 → mode ≡ 1 → (c + 2 ^ 31) % 2 ^ 32 + p < n → mark_of mode c (sub_ℕ p n) ≡ 1
+mark_below mode c p n hc m h = sym (cut_off mode c p n hc m (inl h))
+
+pub mark_above : (mode c p n : ℕ) → c < 2 ^ 32 → mode ≡ 1 → 2 ^ 32 + n ≤ (c + 2 ^ 31) % 2 ^ 32 + p → mark_of mode c (sub_ℕ p n) ≡ 1
+mark_above mode c p n hc m h = sym (cut_off mode c p n hc m (inr h))
+
+pub ruleset limits = (cell_wraps, cell_clamps, mark_wraps, mark_inside, mark_below, mark_above)
 
 -- a mark is 0 or 1
 pub mark_le : (mode c : ℕ) (z : ℤ) → mark_of mode c z ≤ 1

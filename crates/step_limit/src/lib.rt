@@ -16,6 +16,7 @@ pub struct Cell {
 }
 
 // Sums held as unsigned words are added with wrapping add; mode 1 clamps once.
+#[tactic(auto, using(crate::proofs::Cells::limits))]
 pub fn limited(mode: Mode, c: u32, plus: u32, minus: u32) -> Cell
     requires { (mode.0 ≤ 1) × (plus ≤ 8388608) × (minus ≤ 8388608) }
     ensures { (result.word ≡ cell_of mode.0 c (sub_ℕ plus minus)) × (result.mark ≡ mark_of mode.0 c (sub_ℕ plus minus)) }

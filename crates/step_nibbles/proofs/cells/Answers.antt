@@ -8,7 +8,7 @@ use Rattle.kinds.specs.Rule.{minors}
 use Rattle.step_limit.specs.Workers.{with_mark, with_marks}
 use Rattle.step_limit.proofs.Marks.{with_one}
 use Rattle.step_products.specs.Sums.{digits_words, digits_marks}
-use Rattle.step_products.proofs.Worded.{marks_le, still_summable}
+use Rattle.step_products.proofs.Worded.{marks_le}
 use Rattle.step_nibbles.proofs.cells.Invariants.{word, mark}
 use Rattle.step_nibbles.proofs.cells.Goals as goal
 use Rattle.step_nibbles.proofs.cells.Goals.{After-cell-one}
@@ -28,12 +28,6 @@ module _ (c : After-cell-one) where
 pub loop-k-init : goal.loop-k-init
 unfolding fills with_marks
 loop-k-init c = (refl, refl)
-
-pub cell-one-requires : goal.cell-one-requires
-cell-one-requires c =
-    let a = c.args in
-    let p = c.requires.0 in
-    (still_summable a.l a.mode.0 a.h a.c.now a.d.now a.c.now p (p.of_c ∙ sym p.of_d), c.requires.1, c.put.ensures, omega (arith, c.loop-k-test.true, p.of_c, p.of_d))
 
 pub keep-requires : goal.keep-requires
 keep-requires c =

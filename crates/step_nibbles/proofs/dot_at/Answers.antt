@@ -14,12 +14,6 @@ dots : (spans n row column : ℕ) (x y : List ℕ) (r : Dot) → spans ≡ n
 dots spans n row column x y r e d =
     subst (λ (n : ℕ). Dots (n * 32) (λ k. get_or x (row * (n * 32) + k) 0) (λ k. get_or y (column * (n * 32) + k) 0) r) (sym e) d
 
-pub dot_of-requires : goal.dot_of-requires
-dot_of-requires c =
-    let s = c.args in
-    let e = c.if-spans-eq1.true in
-    (omega arith, omega (arith, c.requires), omega (arith, c.requires), rows _ 1 s.row s.x.now e c.requires.4, rows _ 1 s.column s.y.now e c.requires.5, c.requires.6)
-
 pub returns-then-spans-eq1 : goal.returns-then-spans-eq1
 returns-then-spans-eq1 c =
     let s = c.args in

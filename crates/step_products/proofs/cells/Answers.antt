@@ -6,7 +6,7 @@ use Rattle.step_limit.specs.Workers.{with_marks}
 use Rattle.step_limit.proofs.Marks.{with_block}
 use Rattle.kinds.specs.Kinds.{lanes}
 use Rattle.step_products.specs.Sums.{digits_words, digits_marks}
-use Rattle.step_products.proofs.Worded.{words_length, lane_covered, still_summable}
+use Rattle.step_products.proofs.Worded.{words_length, lane_covered}
 use Rattle.step_products.proofs.cells.Invariants.{Words}
 use Rattle.step_products.proofs.cells.Goals as goal
 
@@ -17,15 +17,6 @@ loop-lane-init c =
     let u = digits_words a.l a.mode.0 a.h a.x.now a.y.now a.c.now in
     let v = digits_marks a.l a.mode.0 a.h a.x.now a.y.now a.c.now in
     (brings_none u (Words a.l.c.words) a.d.now, ap (λ (n : ℕ). with_marks 0 n v a.marks.now) (sym (zero-mul a.l.c.words)))
-
-pub lane_cells-requires : goal.lane_cells-requires
-lane_cells-requires c =
-    let a = c.args in
-    let l = c.loop-lane in (
-      still_summable a.l a.mode.0 a.h a.c.now a.d.now l.d c.requires.0 l.invariant.0.same,
-      c.loop-lane-test.true,
-      l.auto.marks ∙ c.requires.1,
-    )
 
 pub loop-lane-preserved : goal.loop-lane-preserved
 loop-lane-preserved c =
