@@ -1,5 +1,6 @@
 // The C interface: each public call of the bench under a plain name, its answer as one word. include/wazimroot.h says how it is called.
 #![tactic(auto)]
+
 ghost use Rattle.places.specs.PlaceCalls.{place_call, find_call};
 ghost use Rattle.unpack.specs.UnpackCall.{unpack_call};
 ghost use Rattle.pack.specs.PackCall.{pack_call};
