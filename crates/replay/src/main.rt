@@ -1,6 +1,7 @@
 // Reads step records from a file or from standard input and prints a verdict for each: the program of document 02, K2. What it prints for
 // which bytes is `replay_text::put_lines`; here bytes are only moved, and what fails is said on standard error.
 #![tactic(auto)]
+
 ghost use Rattle.std.specs.Prelude.{◌≡◌, ◌^◌, ◌<◌, ◌≤◌, length, IfOk};
 
 use std::io;
