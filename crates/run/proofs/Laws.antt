@@ -26,7 +26,7 @@ use Rattle.step_work.proofs.Matrices.{cuts_length, cuts_lt, uncut}
 use Rattle.step.proofs.Accepted.{ready}
 use Rattle.run.specs.declared.Run.{Run}
 use Rattle.run.specs.Runs.{run_of, zeros, no_marks, with_used, used_of, opened_run, fed_run}
-use Rattle.run.specs.RunCalls.{max_blocks, cannot_clamp, bad_run, open_refusals, feed_refusals, read_refusals, open_answer, feed_answer}
+use Rattle.run.specs.RunCalls.{max_blocks, cannot_clamp, bad_run, open_refusals, feed_refusals, read_refusals, marks_refusals, open_answer, feed_answer}
 use Rattle.run.specs.Workers.{markable, mark_from}
 
 -- the used sums of every arithmetic kind are among the 128
@@ -173,6 +173,9 @@ module _ (run : Run) where
 
   pub read_passes : (d : ℕ) → Passes (read_refusals run d) → Ready k run.signs.0 run.mode.0 × (d ≡ words_needed k 2)
   read_passes d p = ((sound (search p)).0, search p)
+
+  pub marks_passes : (n : ℕ) → Passes (marks_refusals run n) → n ≡ 4
+  marks_passes n p = search p
 
 module _ (kind signs mode c : ℕ) where
   pub open_passes : Passes (open_refusals kind signs mode c) → Ready kind signs mode × (c ≡ words_needed kind 2)

@@ -3,7 +3,7 @@
 use mathlib.Core.Path.{◌≡◌, sym, ap, ap₂, ◌∙◌}
 use mathlib.Core.Bool.{Bool, true, false, not}
 use Prim.Native.Nat.{ℕ, zero, suc, ◌+◌, ◌*◌, ◌-◌, ◌%◌, ◌<◌, ◌≤◌}
-use native.Mathlib.Nat.{mul-add, add-mul, mod-eq_of_lt, add-mod_right}
+use native.Mathlib.Nat.{mul-add, add-mul, mul-le-mul, mod-eq_of_lt, add-mod_right}
 use native.Mathlib.Omega.{arith}
 use lib.Dec.{T, ltb, ltb→lt, nltb→le}
 use lib.IntN.{pos, sub_ℕ, ◌*ℤ◌, ◌+ℤ◌}
@@ -13,6 +13,10 @@ use Rattle.laws.specs.Integers.{value, sum_z}
 use Rattle.laws.proofs.Differences.{is_pos, sub_add, sub_mul, sub_eq}
 use Rattle.laws.proofs.Integers.{sum_z_cong}
 use Rattle.step_products.specs.Sums.{offset_of, raised, offset_dot}
+
+-- a product of small numbers is small
+pub product_le : (u v m n : ℕ) → u ≤ m → v ≤ n → u * v ≤ m * n
+product_le u v m n h k = mul-le-mul h k
 
 -- one product more, on either side of the difference
 more_plus : (s n p q : ℕ) → s + n * p + (q + p) ≡ s + q + suc n * p

@@ -15,7 +15,7 @@ use Rattle.kinds.specs.declared.Layout.{Layout}
 use Rattle.kinds.specs.declared.Layouts.{Layouts}
 use Rattle.step_limit.specs.Limits.{cell_of, mark_of}
 use Rattle.step_limit.proofs.Cells.{mark_le}
-use Rattle.step_products.specs.Sums.{offset_dot, digits_dot, digits_word, digits_mark, digits_words, digits_marks, Dots}
+use Rattle.step_products.specs.Sums.{offset_dot, digits_dot, digits_word, digits_mark, digits_words, digits_marks, Dots, Summable}
 use Rattle.step_products.specs.declared.Dot.{Dot}
 use Rattle.step_products.specs.declared.Offsets.{Offsets}
 use Rattle.step_products.specs.declared.Split.{Split}
@@ -79,3 +79,19 @@ marks_small l mode h x y c j = marks_le l.c (minors l.a) mode h x y c j
 -- every index is a word of a lane
 pub lane_covered : (each x : ℕ) → 0 < each → x < lanes * each → Below lanes (λ lane. Below each (λ i. At (lane * each + i))) x
 lane_covered each x some l = (x / each, (div-lt_iff_lt-mul some).1 l, (x % each, mod-lt x some, sym (div-add-mod' x each)))
+
+-- a buffer that was filled in part asks for no more
+pub still_summable : (l : Layouts) (mode : ℕ) (h : Offsets) (c d e : List ℕ) → Summable l mode h c d → length e ≡ length d → Summable l mode h c e
+still_summable l mode h c d e p same =
+    record {
+      mode_le = p.mode_le;
+      spans_le = p.spans_le;
+      deep = p.deep;
+      offset_a = p.offset_a;
+      offset_b = p.offset_b;
+      halves_pos = p.halves_pos;
+      halves_le = p.halves_le;
+      pairs = p.pairs;
+      of_c = p.of_c;
+      of_d = same ∙ p.of_d;
+    }
