@@ -1,4 +1,5 @@
 -- A test holds exactly when it says so, and the first index of a `somewhere`. Assumes nothing.
+use Rattle.std.proofs.Common.{if◌then◌else◌}
 use mathlib.Core.Path.{◌≡◌, refl, sym, ap, subst, ◌∙◌}
 use mathlib.Core.Bool.{Bool, true, false, not, ◌&&◌, ◌||◌, false≢true}
 use mathlib.Core.Logic.{◌↔◌, ◌⊎◌, inl, inr}
@@ -6,7 +7,7 @@ use Prim.Native.Nat.{ℕ, zero, suc, ◌<◌, ◌≤◌, zero-le, suc-le-suc}
 use native.Mathlib.Nat.{not-suc-le-zero, le_of_suc-le-suc}
 use native.Mathlib.Omega.{arith}
 use borrow.Author.Tests.{ltb-true, lt-ltb, leb-true, le-leb, eqb-true, eq-eqb, not-true}
-use Rattle.laws.specs.Choice.{if◌then◌else◌, ◌<?◌, ◌=?◌}
+use Rattle.laws.specs.Choice.{◌<?◌, ◌=?◌}
 use Rattle.answers.specs.Tests.{Test, over, under, reaches, is, differs, either, both, unless, somewhere, Says, first_true, holds, first_of}
 
 -- the scan: it ends at n at the latest; before it nothing is true; where it ends below n, it is true there

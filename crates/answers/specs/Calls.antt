@@ -1,6 +1,5 @@
 -- Document 01, 'Refusal numbers': a call as a value, its refusals in their order and what it gives where none applies. Assumes nothing.
-use Rattle.std.specs.Prelude.{ℕ, ◌≡◌, ◌⊎◌, List, [], ◌∷◌}
-use Rattle.laws.specs.Choice.{if◌then◌else◌}
+use Rattle.std.specs.Prelude.{ℕ, ◌≡◌, ◌⊎◌, List, [], ◌∷◌, if◌then◌else◌}
 use Rattle.answers.specs.Refusals.{Answer, given, refusal, after}
 use Rattle.answers.specs.Tests.{Test, somewhere, holds, Says, first_of}
 

@@ -1,6 +1,6 @@
 -- Document 01, 'Refusal numbers': a test of the table as a value, which says something in words, and computes. Assumes nothing.
-use Rattle.std.specs.Prelude.{ℕ, zero, suc, ◌<◌, ◌≤◌, ◌≡◌, Bool, not, ◌&&◌, ◌||◌, ◌⊎◌, ◌≢◌}
-use Rattle.laws.specs.Choice.{if◌then◌else◌, ◌<?◌, ◌≤?◌, ◌=?◌}
+use Rattle.std.specs.Prelude.{ℕ, zero, suc, ◌<◌, ◌≤◌, ◌≡◌, Bool, not, ◌&&◌, ◌||◌, ◌⊎◌, ◌≢◌, if◌then◌else◌}
+use Rattle.laws.specs.Choice.{◌<?◌, ◌≤?◌, ◌=?◌}
 
 pub data Test : Type 0 where
   over : (x most : ℕ) → Test

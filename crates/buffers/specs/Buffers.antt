@@ -1,6 +1,6 @@
 -- Document 01, 'Kinds', and document 02, K9: what stands in a warp buffer and in a matrix buffer. Assumes nothing.
-use Rattle.std.specs.Prelude.{ℕ, ◌+◌, ◌*◌, ◌^◌, ◌<◌, List, length, get_or}
-use Rattle.laws.specs.Choice.{if◌then◌else◌, ◌=?◌}
+use Rattle.std.specs.Prelude.{ℕ, ◌+◌, ◌*◌, ◌^◌, ◌<◌, List, length, get_or, if◌then◌else◌}
+use Rattle.laws.specs.Choice.{◌=?◌}
 use Rattle.laws.specs.Fields.{bits_from, joined}
 use Rattle.laws.specs.Lists.{tab, blocks}
 use Rattle.kinds.specs.Kinds.{lanes, word_bits, entry_of, role_of, bits_at, columns_at, rows_at, words_at}

@@ -1,7 +1,7 @@
 -- A stretch of a lane: the elements that one word holds, or one element that takes a word or two. Its places follow one another, and the
 -- four lanes of a quad have theirs in one line; so buffers are filled stretch by stretch, quad by quad. For the workers. Assumes nothing.
-use Rattle.std.specs.Prelude.{ℕ, ◌+◌, ◌*◌, Bool, true, false}
-use Rattle.laws.specs.Choice.{if◌then◌else◌, ◌<?◌, ◌=?◌}
+use Rattle.std.specs.Prelude.{ℕ, ◌+◌, ◌*◌, Bool, true, false, if◌then◌else◌}
+use Rattle.laws.specs.Choice.{◌<?◌, ◌=?◌}
 use Rattle.laws.specs.Toward.{Below, At}
 use Rattle.kinds.specs.Kinds.{word_bits}
 use Rattle.kinds.specs.Rule.{columns_of, place_in}

@@ -1,5 +1,6 @@
 -- In the matrix of a buffer whose words are all the same, an entry depends only on its holder's element number. Where all elements of a lane
 -- have one pattern, by a test that antt computes, a step adds the same number at every place. Assumes nothing.
+use Rattle.std.proofs.Common.{if◌then◌else◌}
 use mathlib.Core.Path.{◌≡◌, sym, ap, ap₂, subst, ◌∙◌}
 use mathlib.Core.List.{List}
 use Prim.Native.Nat.{ℕ, ◌+◌, ◌*◌, ◌/◌, ◌%◌, ◌<◌}
@@ -8,7 +9,6 @@ use lib.Arith.{digits_lt}
 use lib.Dec.{T, eqb, eqb→eq}
 use lib.IntN.{ℤ, pos, ◌*ℤ◌}
 use lib.ListN.{length, get_or}
-use Rattle.laws.specs.Choice.{if◌then◌else◌}
 use Rattle.laws.specs.Bits.{combine, ones_in}
 use Rattle.laws.specs.Fields.{field}
 use Rattle.laws.specs.Integers.{value, sum_z, int32}

@@ -1,4 +1,5 @@
 -- What holds of every line of the kinds table and every role, by tests that antt computes over the whole table. Assumes nothing.
+use Rattle.std.proofs.Common.{if◌then◌else◌}
 use mathlib.Core.Path.{◌≡◌, sym, ap, ◌∙◌}
 use mathlib.Core.Bool.{Bool, true, false, not, ◌||◌, false≢true}
 use Prim.Native.Nat.{ℕ, ◌-◌, ◌*◌, ◌/◌, ◌<◌, ◌≤◌}
@@ -6,7 +7,7 @@ use native.Mathlib.Omega.{arith}
 use borrow.Author.Tests.{eqb-true, ne_eqb, lt-ltb, le-ltb}
 use lib.ListN.{get_or}
 use lib.Dec.{T, leb, eqb, leb→le, eqb→eq}
-use Rattle.laws.specs.Choice.{if◌then◌else◌, ◌<?◌, ◌=?◌}
+use Rattle.laws.specs.Choice.{◌<?◌, ◌=?◌}
 use Rattle.laws.proofs.Every.{all, all_at, all₂, all₂_≤, all₂_≡, all₂_true}
 use Rattle.laws.proofs.Choice.{or_right, none_below}
 use Rattle.laws.proofs.Lists.{get_d_any}

@@ -1,6 +1,6 @@
 -- Document 01, 'Kinds', and document 02, K5. Assumes nothing.
-use Rattle.std.specs.Prelude.{ℕ, ◌-◌, ◌*◌, ◌/◌, ◌≤◌, List, [], ◌∷◌, get_or}
-use Rattle.laws.specs.Choice.{if◌then◌else◌, ◌=?◌}
+use Rattle.std.specs.Prelude.{ℕ, ◌-◌, ◌*◌, ◌/◌, ◌≤◌, List, [], ◌∷◌, get_or, if◌then◌else◌}
+use Rattle.laws.specs.Choice.{◌=?◌}
 use Rattle.answers.specs.Tests.{Test, is, within, Says}
 use Rattle.kinds.specs.declared.Line.{Line}
 use Rattle.kinds.specs.declared.Entry.{Entry}

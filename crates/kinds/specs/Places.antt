@@ -1,7 +1,7 @@
 -- Document 01, 'Where an element sits', and document 02, K5 and K9: g is lane divided by 4, t is lane mod 4, i the element number from 0. Each
 -- clause is (row, column). Assumes nothing.
-use Rattle.std.specs.Prelude.{ℕ, ◌+◌, ◌*◌, ◌/◌, ◌%◌, ◌&&◌, ◌||◌}
-use Rattle.laws.specs.Choice.{if◌then◌else◌, ◌<?◌, ◌≤?◌, ◌=?◌}
+use Rattle.std.specs.Prelude.{ℕ, ◌+◌, ◌*◌, ◌/◌, ◌%◌, ◌&&◌, ◌||◌, if◌then◌else◌}
+use Rattle.laws.specs.Choice.{◌<?◌, ◌≤?◌, ◌=?◌}
 use Rattle.kinds.specs.Kinds.{KnownKind, kind1, kind2, kind3, kind4, kind5, kind6, kind7, kind8, kind9, kind10, kind11, kind12, kind13, kind14, KnownRole, role_a, role_b, role_c, word_bits}
 
 -- A (row; column)

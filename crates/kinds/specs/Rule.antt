@@ -8,8 +8,8 @@
 --   minor    the number that runs along a quad's lanes: the column, or in B the row
 --   turned   the major number is the column
 -- Assumes nothing.
-use Rattle.std.specs.Prelude.{ℕ, ◌+◌, ◌*◌, ◌/◌, ◌%◌, Bool, true, false}
-use Rattle.laws.specs.Choice.{if◌then◌else◌, ◌<?◌}
+use Rattle.std.specs.Prelude.{ℕ, ◌+◌, ◌*◌, ◌/◌, ◌%◌, Bool, true, false, if◌then◌else◌}
+use Rattle.laws.specs.Choice.{◌<?◌}
 use Rattle.kinds.specs.Kinds.{KnownRole, role_a, role_b, role_c, word_bits, bits, words}
 use Rattle.kinds.specs.declared.Entry.{Entry}
 use Rattle.kinds.specs.declared.Layout.{Layout}

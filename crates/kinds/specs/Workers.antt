@@ -1,6 +1,6 @@
 -- What the workers answer, and what they ask for. Assumes nothing.
-use Rattle.std.specs.Prelude.{ℕ, zero, suc, ◌*◌, ◌/◌, ◌<◌, ◌≤◌, ◌≡◌, Bool, ◌&&◌, List, [], ◌∷◌, get_or}
-use Rattle.laws.specs.Choice.{if◌then◌else◌, ◌=?◌, NoneBelow}
+use Rattle.std.specs.Prelude.{ℕ, zero, suc, ◌*◌, ◌/◌, ◌<◌, ◌≤◌, ◌≡◌, Bool, ◌&&◌, List, [], ◌∷◌, get_or, if◌then◌else◌}
+use Rattle.laws.specs.Choice.{◌=?◌, NoneBelow}
 use Rattle.answers.specs.Refusals.{Answer, given, refused}
 use Rattle.answers.specs.Calls.{Call}
 use Rattle.kinds.specs.Kinds.{kinds, table, role_a, role_b, role_c, word_bits, entry_of, role_of}

@@ -1,5 +1,6 @@
 -- A word's ones are the sum of its digits, for a combination that works digit by digit; and the ones in a list of bits are its sum.
 -- Assumes nothing.
+use Rattle.std.proofs.Common.{if◌then◌else◌}
 use mathlib.Core.Path.{◌≡◌, refl, sym, ◌∙◌, ap, ap₂, subst}
 use mathlib.Core.Bool.{Bool, true, false}
 use mathlib.Core.List.{List, ◌∷◌}
@@ -11,7 +12,7 @@ use lib.Arith.{lt-one, digits_div, digits_mod}
 use lib.Pow.{shr-shr, shr_lt}
 use lib.Bits.{bit_and, bit_xor, and_step, xor_step, differ}
 use lib.Count.{ones, ones_step}
-use Rattle.laws.specs.Choice.{if◌then◌else◌, ◌=?◌}
+use Rattle.laws.specs.Choice.{◌=?◌}
 use Rattle.laws.specs.Bits.{combine, ones_in, sum_n}
 use Rattle.laws.specs.Lists.{tab}
 

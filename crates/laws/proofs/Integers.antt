@@ -1,5 +1,6 @@
 -- Laws of words and numbers: a word32 is determined by a congruence, wrapping in between changes nothing, and clamping is a minimum and a
 -- truncated difference above the lowest number, which leaves alone what is inside. Assumes nothing.
+use Rattle.std.proofs.Common.{if◌then◌else◌}
 use mathlib.Core.Path.{◌≡◌, refl, sym, ◌∙◌, ap, ap₂, subst}
 use mathlib.Core.Bool.{Bool, true, false, not}
 use mathlib.Core.Logic.{◌↔◌, ◌⊎◌, inl, inr}
@@ -8,7 +9,6 @@ use native.Mathlib.Omega.{arith}
 use borrow.Author.Tests.{leb-true, leb-false, le-leb, lt-leb}
 use lib.Dec.{T, ltb, leb, ltb→lt, nltb→le}
 use lib.IntN.{ℤ, pos, negsuc, nat_abs, sub_ℕ, ◌+ℤ◌, ◌*ℤ◌}
-use Rattle.laws.specs.Choice.{if◌then◌else◌}
 use Rattle.laws.specs.Integers.{value, sum_z, int32, word32, clamp, outside}
 use Rattle.laws.specs.Totals.{Wraps}
 use Rattle.laws.proofs.Differences.{Norm, plus, minus, norm, is_pos, is_neg, sub_eq, sub_add, sub_mul, up, down, as_diff}

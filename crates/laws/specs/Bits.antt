@@ -1,6 +1,6 @@
 -- Bits combined and counted. Assumes nothing.
-use Rattle.std.specs.Prelude.{ℕ, zero, suc, ◌+◌, ◌*◌, ◌%◌, List, [], ◌∷◌}
-use Rattle.laws.specs.Choice.{if◌then◌else◌, ◌=?◌}
+use Rattle.std.specs.Prelude.{ℕ, zero, suc, ◌+◌, ◌*◌, ◌%◌, List, [], ◌∷◌, if◌then◌else◌}
+use Rattle.laws.specs.Choice.{◌=?◌}
 
 -- two bits combined: mode 0 is xor, mode 1 is and
 unfoldable pub combine : (mode x y : ℕ) → ℕ

@@ -1,7 +1,7 @@
 -- Integers and the 32-bit words that stand for them. Assumes nothing.
-use Rattle.std.specs.Prelude.{ℕ, zero, suc, ◌*◌, ◌-◌, ◌%◌, ◌^◌, min, Bool, true, false, ℤ, pos, negsuc, ◌+ℤ◌}
+use Rattle.std.specs.Prelude.{ℕ, zero, suc, ◌*◌, ◌-◌, ◌%◌, ◌^◌, min, Bool, true, false, ℤ, pos, negsuc, ◌+ℤ◌, if◌then◌else◌}
 use Rattle.std.proofs.Math.IntN.{sub_ℕ}
-use Rattle.laws.specs.Choice.{if◌then◌else◌, ◌<?◌, ◌≤?◌}
+use Rattle.laws.specs.Choice.{◌<?◌, ◌≤?◌}
 
 -- a pattern whose sign bit weighs half: read as unsigned, itself; as signed, in two's complement
 unfoldable pub value : (unsigned : Bool) → (half x : ℕ) → ℤ

@@ -1,11 +1,12 @@
 -- The answers by the one rule: at a legal kind and role, document 01's place is the rule's, the reverse question's refusal is the rule's,
 -- and each undoes the other. Assumes nothing.
+use Rattle.std.proofs.Common.{if◌then◌else◌}
 use mathlib.Core.Path.{◌≡◌, refl, sym, ap, ap₂, subst, ◌∙◌}
 use mathlib.Core.Bool.{Bool, true, false, ◌||◌}
 use mathlib.Core.List.{List, [], ◌∷◌}
 use Prim.Native.Nat.{ℕ, ◌<◌}
 use borrow.Author.Tests.{leb-false}
-use Rattle.laws.specs.Choice.{if◌then◌else◌, ◌≤?◌}
+use Rattle.laws.specs.Choice.{◌≤?◌}
 use Rattle.laws.proofs.Choice.{or_false, or_comm}
 use Rattle.answers.specs.Refusals.{given, refusal, refused}
 use Rattle.answers.specs.Calls.{Line, ◌when◌, ◌then◌, first, answer}

@@ -1,5 +1,6 @@
 -- What a test for 6 decides, once it was told. And past the last element or minor number, told by bits: a lane's words hold the bits of its
 -- elements and no more, so that both sides of the test are the definition's, times one number. Assumes nothing.
+use Rattle.std.proofs.Common.{if◌then◌else◌}
 use mathlib.Core.Path.{◌≡◌, sym, ap, ap₂, ◌∙◌}
 use mathlib.Core.Bool.{Bool, true, false, ◌||◌}
 use Prim.Native.Nat.{ℕ, suc, ◌*◌, ◌≤◌, ◌<◌}
@@ -7,7 +8,7 @@ use native.Mathlib.Nat.{mul-le-mul, mul-le-mul_left, mul-suc, mul_comm}
 use native.Mathlib.Decide.{dec_le}
 use native.Mathlib.Omega.{arith}
 use borrow.Author.Tests.{le-leb, lt-leb}
-use Rattle.laws.specs.Choice.{if◌then◌else◌, ◌≤?◌}
+use Rattle.laws.specs.Choice.{◌≤?◌}
 use Rattle.answers.specs.Refusals.{given, refusal}
 use Rattle.answers.specs.Tests.{Test, holds}
 use Rattle.answers.specs.Right.{Denies}

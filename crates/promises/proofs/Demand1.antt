@@ -2,6 +2,7 @@
 -- refused call writes no word anywhere, and a refused run comes back as it went in.' That the code comes back the toolchain proves, no call having
 -- a `requires`. What follows is proved once for every call there may be (answers/proofs/Demand1); the calls of the bench are those of specs/Calls.
 -- Assumes nothing.
+use Rattle.std.proofs.Common.{if◌then◌else◌}
 use mathlib.Core.Path.{◌≡◌, refl, ap, subst, ◌∙◌}
 use mathlib.Core.Logic.{◌↔◌, ◌⊎◌}
 use mathlib.Core.Bool.{Bool, true, false, not, ◌||◌, false≢true}
@@ -20,7 +21,7 @@ use Rattle.answers.specs.declared.Verdict.{Verdict}
 use Rattle.answers.specs.declared.Verdict.TheVariants.{Accepted, Refused}
 use Rattle.answers.proofs.Words.{says}
 use Rattle.answers.proofs.Demand1 as every
-use Rattle.laws.specs.Choice.{if◌then◌else◌, ◌=?◌}
+use Rattle.laws.specs.Choice.{◌=?◌}
 use Rattle.laws.proofs.Every.{all, all_at}
 use Rattle.kinds.specs.Kinds.{kinds, role_c, line_at, entry_of, bits, bits_at, one_bit_element, int8_element, int4_element, one_bit, integer, arithmetic}
 use Rattle.kinds.specs.declared.Entry.{Entry}

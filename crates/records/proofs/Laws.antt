@@ -1,4 +1,5 @@
 -- A record's parts: what of them a kind uses has room, and has words of 32 bits. Assumes nothing.
+use Rattle.std.proofs.Common.{if◌then◌else◌}
 use mathlib.Core.Path.{◌≡◌, refl, sym, ap, subst, ◌∙◌}
 use mathlib.Core.Bool.{Bool, true, false}
 use mathlib.Core.List.{List, []}
@@ -8,7 +9,6 @@ use borrow.Author.Tests.{ltb-true, ltb-false}
 use lib.Dec.{ltb}
 use lib.ListN.{length, get_or, take, drop, length-take}
 use lib.Seq.{get_or-take, get_or-drop}
-use Rattle.laws.specs.Choice.{if◌then◌else◌}
 use Rattle.laws.proofs.Lists.{length_tab, get_or_tab}
 use Rattle.answers.specs.Tests.{Says}
 use Rattle.answers.specs.Refusals.{number_of, detail_of, refused}

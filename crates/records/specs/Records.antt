@@ -1,6 +1,5 @@
 -- Document 02, K1: the step records that the card's logger writes; and K2: what refuses one. Assumes nothing.
-use Rattle.std.specs.Prelude.{ℕ, ◌+◌, ◌*◌, ◌^◌, List, [], ◌∷◌, length, get_or, take, drop}
-use Rattle.laws.specs.Choice.{if◌then◌else◌}
+use Rattle.std.specs.Prelude.{ℕ, ◌+◌, ◌*◌, ◌^◌, List, [], ◌∷◌, length, get_or, take, drop, if◌then◌else◌}
 use Rattle.laws.specs.Lists.{tab}
 use Rattle.answers.specs.Tests.{Test, is, differs, either, both, within, somewhere, holds}
 use Rattle.answers.specs.Calls.{Line, ◌when◌, ◌then◌, Call}

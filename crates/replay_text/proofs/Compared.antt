@@ -1,5 +1,6 @@
 -- Two buffers of D: their words are equal exactly when their matrices agree at every place, since packing gives back the words that were unpacked; and
 -- else there is a first place, row by row, at which they differ. Assumes nothing.
+use Rattle.std.proofs.Common.{if◌then◌else◌}
 use mathlib.Core.Path.{◌≡◌, refl, sym, ap, ap₂, subst, ◌∙◌}
 use mathlib.Core.Bool.{Bool, true, false}
 use mathlib.Core.Logic.{◌↔◌, ◌≢◌}
@@ -11,7 +12,6 @@ use lib.Arith.{digits_lt, digits_div, digits_mod}
 use borrow.Author.Tests.{ltb-true, lt-ltb, le-ltb}
 use lib.ListN.{length, get_or}
 use lib.Seq.{ext_get_or}
-use Rattle.laws.specs.Choice.{if◌then◌else◌}
 use Rattle.laws.proofs.Lists.{length_tab}
 use Rattle.answers.specs.Tests.{Test, somewhere, holds, first_of, Says}
 use Rattle.answers.proofs.Words.{says_not, first_index, first_here, first_nowhere}

@@ -1,6 +1,6 @@
 -- Document 02, K2: the verdict of a step record. Assumes nothing.
-use Rattle.std.specs.Prelude.{ℕ, ◌/◌, ◌%◌, ◌<◌, ◌≡◌, ◌≢◌, List}
-use Rattle.laws.specs.Choice.{if◌then◌else◌, ◌<?◌}
+use Rattle.std.specs.Prelude.{ℕ, ◌/◌, ◌%◌, ◌<◌, ◌≡◌, ◌≢◌, List, if◌then◌else◌}
+use Rattle.laws.specs.Choice.{◌<?◌}
 use Rattle.laws.specs.Lists.{blocks}
 use Rattle.answers.specs.Refusals.{Answer, given, refused}
 use Rattle.answers.specs.Tests.{Test, differs, first_of}

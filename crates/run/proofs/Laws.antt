@@ -1,4 +1,5 @@
 -- What an accepted call tells of its run and its lengths, the used sums, and which marks a good run can have. Assumes nothing.
+use Rattle.std.proofs.Common.{if◌then◌else◌}
 use mathlib.Core.Path.{◌≡◌, refl, sym, ap, ap₂, ◌∙◌}
 use mathlib.Core.Bool.{Bool, true, false, false≢true}
 use mathlib.Core.List.{List, ◌++◌}
@@ -7,7 +8,7 @@ use Prim.Native.Nat.{ℕ, ◌+◌, ◌*◌, ◌/◌, ◌^◌, ◌≤◌, ◌<◌
 use native.Mathlib.Omega.{arith}
 use borrow.Author.Tests.{eqb-true}
 use lib.ListN.{length, get_or, take, drop, length-append, length-drop}
-use Rattle.laws.specs.Choice.{if◌then◌else◌, ◌=?◌}
+use Rattle.laws.specs.Choice.{◌=?◌}
 use Rattle.laws.specs.Lists.{tab}
 use Rattle.laws.proofs.Lists.{length_tab, get_or_tab}
 use Rattle.kinds.specs.Kinds.{entry_of, lanes, words, role_c, one_bit_element, int4_element, one_bit, Arithmetic}

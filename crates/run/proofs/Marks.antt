@@ -1,5 +1,6 @@
 -- A feed keeps the mark at a place, or sets it where the clamp changed the exact result. So as long as none is set every sum is exact, and one that is set
 -- tells of a block that was cut off. Assumes nothing.
+use Rattle.std.proofs.Common.{if◌then◌else◌}
 use mathlib.Core.Path.{◌≡◌, refl, sym, ap, ap₂, subst, ◌∙◌}
 use mathlib.Core.Bool.{Bool, true, false}
 use mathlib.Core.List.{List, [], ◌∷◌, ◌++◌}
@@ -10,7 +11,7 @@ use borrow.Author.Tests.{ltb-true, ltb-false, eqb-true, eqb-false}
 use lib.Dec.{ltb}
 use lib.IntN.{ℤ, ◌+ℤ◌, +ℤ_assoc, +ℤ_idr}
 use lib.ListN.{length, get_or, drop, length-append}
-use Rattle.laws.specs.Choice.{if◌then◌else◌, ◌=?◌}
+use Rattle.laws.specs.Choice.{◌=?◌}
 use Rattle.laws.specs.Integers.{int32, clamp, outside}
 use Rattle.laws.specs.Lists.{tab}
 use Rattle.laws.specs.Totals.{total}

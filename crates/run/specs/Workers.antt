@@ -1,6 +1,5 @@
 -- What the workers of refusal 10 look for. Assumes nothing.
-use Rattle.std.specs.Prelude.{ℕ, List}
-use Rattle.laws.specs.Choice.{if◌then◌else◌}
+use Rattle.std.specs.Prelude.{ℕ, List, if◌then◌else◌}
 use Rattle.answers.specs.Tests.{Test, holds, is, reaches, both, somewhere}
 use Rattle.buffers.specs.Buffers.{words_needed}
 use Rattle.step_limit.specs.Marks.{mark_in}

@@ -1,5 +1,6 @@
 -- Laws of the choice of bytes: the chosen lanes by a computed test over every legal thread-id, and the chosen byte and the exponent at
 -- each number. Assumes nothing.
+use Rattle.std.proofs.Common.{if◌then◌else◌}
 use mathlib.Core.Path.{◌≡◌, refl, sym, ap, ap₂, subst, ◌∙◌}
 use mathlib.Core.Bool.{Bool, true, false}
 use mathlib.Core.List.{List, [], ◌∷◌, ◌++◌}
@@ -14,7 +15,7 @@ use lib.Seq.{get_or-append-add}
 use lib.Signed.{◌≤ℤ◌, mag, le_z, le_z_yes}
 use mir.Syntax.{w32}
 use mir.Val.{SFits}
-use Rattle.laws.specs.Choice.{if◌then◌else◌, ◌=?◌}
+use Rattle.laws.specs.Choice.{◌=?◌}
 use Rattle.laws.specs.Lists.{tab, blocks}
 use Rattle.laws.proofs.Every.{all_at, all₂_≡}
 use Rattle.laws.proofs.Lists.{length_tab, get_or_tab, is_tab, tab_ext}

@@ -1,8 +1,8 @@
 -- What an accepted step tells of its numbers and lengths, and that the plain step's selectors are never refused. Assumes nothing.
+use Rattle.std.proofs.Common.{if◌then◌else◌}
 use mathlib.Core.Path.{◌≡◌, refl, ap, subst}
 use mathlib.Core.Bool.{Bool, true, false, ◌&&◌}
 use Prim.Native.Nat.{ℕ}
-use Rattle.laws.specs.Choice.{if◌then◌else◌}
 use Rattle.answers.specs.Refusals.{given, refusal}
 use Rattle.answers.specs.Tests.{holds}
 use Rattle.answers.specs.Calls.{first, judged_by}

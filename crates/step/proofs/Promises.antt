@@ -1,10 +1,10 @@
 -- What document 01 and demand 2 promise of one step, a sentence above its statement. Assumes nothing.
+use Rattle.std.proofs.Common.{if◌then◌else◌}
 use mathlib.Core.Path.{◌≡◌, sym, ap₂, subst, ◌∙◌}
 use mathlib.Core.List.{List}
 use Prim.Native.Nat.{ℕ, ◌^◌, ◌<◌, ◌≤◌}
 use native.Mathlib.Omega.{arith}
 use lib.IntN.{ℤ, pos, negsuc, ◌+ℤ◌, ◌*ℤ◌}
-use Rattle.laws.specs.Choice.{if◌then◌else◌}
 use Rattle.laws.specs.Bits.{combine, ones_in}
 use Rattle.laws.specs.Integers.{value, int32, clamp}
 use Rattle.laws.specs.Totals.{Wraps}

@@ -1,8 +1,8 @@
 -- The words of D, one at a place: in mode 0 the word that is congruent to the sum of C's word and a difference, in mode 1 a minimum and a
 -- truncated difference above the lowest number. There the result is inside or not, as the sum above the lowest number says. Assumes nothing.
-use Rattle.std.proofs.Common.{◌≡◌, ℕ, ◌+◌, ◌-◌, ◌%◌, ◌^◌, ◌<◌, ◌≤◌, min, Bool, true, false, ◌⊎◌, inl, inr, sym, ℤ, ◌+ℤ◌, refl, arith}
+use Rattle.std.proofs.Common.{◌≡◌, ℕ, ◌+◌, ◌-◌, ◌%◌, ◌^◌, ◌<◌, ◌≤◌, min, Bool, true, false, ◌⊎◌, inl, inr, sym, ℤ, ◌+ℤ◌, refl, arith, if◌then◌else◌}
 use lib.IntN.{sub_ℕ}
-use Rattle.laws.specs.Choice.{if◌then◌else◌, ◌=?◌}
+use Rattle.laws.specs.Choice.{◌=?◌}
 use Rattle.laws.specs.Integers.{int32, outside}
 use Rattle.laws.proofs.Differences.{sub_add}
 use Rattle.laws.proofs.Integers.{int_is, word_is, clamp_is, inside_is, outside_is, outside_le}

@@ -1,8 +1,8 @@
 -- To set a mark is to change one bit of one word: so marks kept one after the other are those kept all at once. Assumes nothing.
-use Rattle.std.proofs.Common.{◌≡◌, ℕ, zero, suc, ◌+◌, ◌*◌, ◌/◌, ◌%◌, ◌^◌, ◌<◌, ◌≤◌, Bool, true, false, ltb, List, [], ◌∷◌, length, get_or, set, sym, refl, ap, ◌∙◌, subst, ap₂, ⊎_elim, le_of_suc-le-suc, not-suc-le-zero, add-zero, add_assoc, add-suc, mod-lt, mod-eq_of_lt, suc-mul, div-add-mod', zero-add, add-one, arith, length-set, get_or-set_other, get_or-set_same, pow_mono, shl_lt, ltb-false, ltb-true}
+use Rattle.std.proofs.Common.{◌≡◌, ℕ, zero, suc, ◌+◌, ◌*◌, ◌/◌, ◌%◌, ◌^◌, ◌<◌, ◌≤◌, Bool, true, false, ltb, List, [], ◌∷◌, length, get_or, set, sym, refl, ap, ◌∙◌, subst, ap₂, ⊎_elim, le_of_suc-le-suc, not-suc-le-zero, add-zero, add_assoc, add-suc, mod-lt, mod-eq_of_lt, suc-mul, div-add-mod', zero-add, add-one, arith, length-set, get_or-set_other, get_or-set_same, pow_mono, shl_lt, ltb-false, ltb-true, if◌then◌else◌}
 use lib.Arith.{digits_lt, digits_div, digits_mod}
 use lib.Bits.{bit_or, or_zero_r, or_zero_l, or_lt, or_self}
-use Rattle.laws.specs.Choice.{if◌then◌else◌, ◌=?◌}
+use Rattle.laws.specs.Choice.{◌=?◌}
 use Rattle.laws.specs.Fields.{field, joined}
 use Rattle.laws.proofs.Fields.{field_lt, field_or, field_joined, joined_field, joined_ext, bit_there, bit_elsewhere, no_bit, some_bit}
 use Rattle.laws.proofs.Lists.{is_tab, get_or_tab}

@@ -1,6 +1,6 @@
 -- Document 01, 'One step': the limit of the exact result; document 02, K12: whether it was cut off there. Assumes nothing.
-use Rattle.std.specs.Prelude.{ℕ, ℤ, ◌+ℤ◌}
-use Rattle.laws.specs.Choice.{if◌then◌else◌, ◌=?◌}
+use Rattle.std.specs.Prelude.{ℕ, ℤ, ◌+ℤ◌, if◌then◌else◌}
+use Rattle.laws.specs.Choice.{◌=?◌}
 use Rattle.laws.specs.Integers.{int32, word32, clamp, outside}
 
 -- Mode 0 wraps the exact result to 32 bits, mode 1 clamps it once, at the end. C and D are signed.

@@ -1,5 +1,6 @@
 -- A sum of products of digits that stand too high is a difference of two sums of naturals; a pattern's value is its digit less the offset,
 -- so the document's sum is the sum over digits. Assumes nothing.
+use Rattle.std.proofs.Common.{if◌then◌else◌}
 use mathlib.Core.Path.{◌≡◌, sym, ap, ap₂, ◌∙◌}
 use mathlib.Core.Bool.{Bool, true, false, not}
 use Prim.Native.Nat.{ℕ, zero, suc, ◌+◌, ◌*◌, ◌-◌, ◌%◌, ◌<◌, ◌≤◌}
@@ -8,7 +9,6 @@ use native.Mathlib.Omega.{arith}
 use lib.Dec.{T, ltb, ltb→lt, nltb→le}
 use lib.IntN.{pos, sub_ℕ, ◌*ℤ◌, ◌+ℤ◌}
 use Rattle.laws.specs.Bits.{sum_n}
-use Rattle.laws.specs.Choice.{if◌then◌else◌}
 use Rattle.laws.specs.Integers.{value, sum_z}
 use Rattle.laws.proofs.Differences.{is_pos, sub_add, sub_mul, sub_eq}
 use Rattle.laws.proofs.Integers.{sum_z_cong}

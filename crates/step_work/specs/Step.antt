@@ -1,7 +1,7 @@
 -- Document 01, 'One step', and document 02, K5: 13 and 14 take modes and signs as kind 1 does, and K12: where a step cuts off. Assumes nothing.
-use Rattle.std.specs.Prelude.{ℕ, ◌*◌, ◌-◌, ◌^◌, Bool, ◌||◌, List, get_or, ℤ, pos, ◌*ℤ◌}
+use Rattle.std.specs.Prelude.{ℕ, ◌*◌, ◌-◌, ◌^◌, Bool, ◌||◌, List, get_or, ℤ, pos, ◌*ℤ◌, if◌then◌else◌}
 use Rattle.answers.specs.Tests.{holds}
-use Rattle.laws.specs.Choice.{if◌then◌else◌, ◌=?◌}
+use Rattle.laws.specs.Choice.{◌=?◌}
 use Rattle.laws.specs.Bits.{combine, ones_in}
 use Rattle.laws.specs.Integers.{value, sum_z}
 use Rattle.laws.specs.Lists.{tab, blocks}

@@ -1,6 +1,5 @@
 -- 11 is told first, and then the selectors decide, by the mode that is asked for. Assumes nothing.
-use Rattle.std.proofs.Common.{sym, ap, ◌∙◌, Bool}
-use Rattle.laws.specs.Choice.{if◌then◌else◌}
+use Rattle.std.proofs.Common.{sym, ap, ◌∙◌, Bool, if◌then◌else◌}
 use Rattle.answers.specs.Refusals.{refusal}
 use Rattle.answers.specs.Calls.{answer}
 use Rattle.answers.proofs.Demand1.{reply_is}
