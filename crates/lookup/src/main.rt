@@ -143,7 +143,8 @@ fn turn<R: Read, W: Write>(out: &mut W, from: &mut R) -> Result<bool, Failed>
     goes_on(came)
 }
 
-// A proved loop has to end, and nothing says that an input does: no run uses up so many turns.
+// Where it succeeds, the lines of the whole input were written. A proved loop has to end, and nothing says that an input does: no run uses up so
+// many turns.
 fn answer_all<R: Read, W: Write>(out: &mut W, from: &mut R) -> Result<(), Failed>
     ensures { OnOk result (IfSome (R.remaining from.old) (λ bytes. length bytes < 2 ^ 64 →
         Appends (W.contents out.old) (W.contents out.new) (printed bytes))) }

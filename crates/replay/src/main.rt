@@ -2,7 +2,11 @@
 // which bytes is `replay_text::put_lines`; here bytes are only moved, and what fails is said on standard error.
 #![tactic(auto)]
 
-ghost use Rattle.std.specs.Prelude.{◌≡◌, ◌^◌, ◌<◌, ◌≤◌, length, IfOk};
+ghost use Rattle.std.specs.Prelude.{◌≡◌, ℕ, ◌+◌, ◌/◌, ◌^◌, ◌<◌, ◌≤◌, List, ◌++◌, length, IfSome, IfOk, OnOk};
+ghost use Rattle.std.specs.Io.KnownBytes.{Appends, Consumes, IsAtEnd};
+ghost use Rattle.records.specs.Records.{record_bytes};
+ghost use Rattle.replay_text.specs.Text.{printed, printed_from};
+ghost use Rattle.replay.specs.Turns.{begun, part_of};
 
 use std::io;
 use std::io::{Read, Write};
@@ -19,10 +23,21 @@ enum Failed {
     Output(io::Error),
 }
 
-// One read and its lines, where so many bytes came before; the answer is how many came now, or 0 where it is over.
-fn turn(rt: &impl Print, from: &mut impl Read, input: &mut [u8], come: u64) -> Result<usize, Failed>
+// One read and its lines, where so many bytes came before; the answer is how many came now, or 0 where it is over. The bytes of a record that
+// has begun stand at the start of `input`, before and after.
+fn turn<R: Read, W: Write>(
+    out: &mut W,
+    from: &mut R,
+    input: &mut [u8],
+    come: u64,
+) -> Result<usize, Failed>
     requires { (length input.old ≡ 64800) × (come < 2 ^ 63) }
-    ensures { IfOk result (λ bytes. bytes ≤ 64800) }
+    ensures few { IfOk result (λ n. n ≤ 64800) }
+    ensures lines { IfOk result (λ n. (bytes : List ℕ) × (length bytes ≡ n)
+        × Consumes (R.remaining from.old) (R.remaining from.new) bytes
+        × Appends (W.contents out.old) (W.contents out.new) (printed_from (come / record_bytes) (begun come input.old ++ bytes))
+        × (begun (come + n) input.new ≡ part_of (begun come input.old ++ bytes))) }
+    ensures none { IfOk result (λ n. n ≡ 0 → IsAtEnd (R.remaining from.old)) }
 {
     let mut output = [0u8; 2048];
     let size = records::BYTES as u64;
@@ -34,16 +49,20 @@ fn turn(rt: &impl Print, from: &mut impl Read, input: &mut [u8], come: u64) -> R
     }
     let held = came.held;
     let end = replay_text::put_lines(number, &input[..held], &mut output);
-    rt.write_all(&output[..end]).map_err(Failed::Output)?;
+    out.write_all(&output[..end]).map_err(Failed::Output)?;
     stream::keep(input, held - held % records::BYTES, held);
     Ok(came.bytes)
 }
 
-fn replay_all(rt: &impl Print, from: &mut impl Read) -> Result<(), Failed> {
+// Where it succeeds, the lines of the whole file were written.
+fn replay_all<R: Read, W: Write>(out: &mut W, from: &mut R) -> Result<(), Failed>
+    ensures { OnOk result (IfSome (R.remaining from.old) (λ file. length file < 2 ^ 63 →
+        Appends (W.contents out.old) (W.contents out.new) (printed file))) }
+{
     let mut input = [0u8; 64800];
     let mut come = 0;
     while come < NEVER {
-        let more = turn(rt, from, &mut input, come)?;
+        let more = turn(out, from, &mut input, come)?;
         if more == 0 {
             break;
         }
@@ -61,7 +80,7 @@ fn say(rt: &HostRuntime, what: &[u8], e: io::Error) -> ExitCode {
 
 fn replay(rt: &HostRuntime, source: io::Result<Source>, what: &[u8]) -> ExitCode {
     let ended = match source {
-        Ok(mut from) => replay_all(rt, &mut from),
+        Ok(mut from) => replay_all(&mut io::writer(rt), &mut from),
         Err(e) => Err(Failed::Input(e)),
     };
     match ended {

@@ -1,7 +1,8 @@
 // What the programs on files share: bytes that come through a reader, and the file that an argument names.
 #![tactic(auto)]
 
-ghost use Rattle.std.specs.Prelude.{◌≡◌, ◌+◌, ◌-◌, ◌^◌, ◌<◌, ◌≤◌, length, take};
+ghost use Rattle.std.specs.Prelude.{◌≡◌, ◌+◌, ◌-◌, ◌^◌, ◌<◌, ◌≤◌, length, take, drop, IsNone};
+ghost use Rattle.std.specs.Io.KnownBytes.{Consumes, IsAtEnd};
 ghost use Rattle.std.specs.Counts.{IsPrefixLen};
 ghost use Rattle.stream.specs.Moved.{moved};
 
@@ -18,9 +19,11 @@ pub struct Came {
     pub failed: Option<io::Error>,
 }
 
-fn read_once(from: &mut impl Read, input: &mut [u8], begun: usize) -> Came
+fn read_once<R: Read>(from: &mut R, input: &mut [u8], begun: usize) -> Came
     requires { begun + length input.old < 2 ^ 64 }
-    ensures { IsPrefixLen result.bytes input.new × (result.held ≡ begun + result.bytes) }
+    ensures held { IsPrefixLen result.bytes input.new × (result.held ≡ begun + result.bytes) }
+    ensures moved { Consumes (R.remaining from.old) (R.remaining from.new) (take result.bytes input.new) }
+    ensures none { 0 < length input.new → IsNone result.failed → result.bytes ≡ 0 → IsAtEnd (R.remaining from.old) }
 {
     match from.read(input) {
         Ok(bytes) => Came {
@@ -37,11 +40,13 @@ fn read_once(from: &mut impl Read, input: &mut [u8], begun: usize) -> Came
 }
 
 // One read, behind the bytes that have come of a record that has begun, which stay.
-pub fn read_behind(from: &mut impl Read, input: &mut [u8], begun: usize) -> Came
+pub fn read_behind<R: Read>(from: &mut R, input: &mut [u8], begun: usize) -> Came
     requires { begun ≤ length input.old }
     ensures prefix_len { IsPrefixLen result.held input.new }
     ensures held_value { result.held ≡ begun + result.bytes }
     ensures input_unchanged { take begun input.new ≡ take begun input.old }
+    ensures moved { Consumes (R.remaining from.old) (R.remaining from.new) (take result.bytes (drop begun input.new)) }
+    ensures none { begun < length input.new → IsNone result.failed → result.bytes ≡ 0 → IsAtEnd (R.remaining from.old) }
 {
     read_once(from, &mut input[begun..], begun)
 }
