@@ -43,8 +43,9 @@ pub fn put_decimal(out: &mut [u8], at: usize, n: u64) -> usize
     if n < 100 {
         return put_two_digits(out, at, n);
     }
-    let after_others = put_decimal(out, at, n / 10);
-    put(out, after_others, b'0' + (n % 10) as u8)
+    let mut digits = [0u8; 20];
+    let count = io::decimal(n, &mut digits);
+    put_text(out, at, &digits[..count])
 }
 
 // A space, then the number.
