@@ -1,7 +1,7 @@
 #!/usr/bin/env python3
 """Brings the repository's own definitions, lemmas, fields and constructors to snake case, everywhere they are named.
 
-usage: python3 tools/respell.py [--names]     at the top, after /opt/rattle/port/port.py, once; --names prints the pairs and changes nothing
+usage: python3 tools/respell.py [--names]     at the top, after the kit's port.py, once; --names prints the pairs and changes nothing
 
 A name is one that an .antt file declares: `camelCase` and `dashed-name` become `camel_case` and `dashed_name`. Types keep their capitals. In .rt files
 only clauses, ghost lines and backticked comments are looked at, in .md files only what stands in backticks; code, strings and outputs stay.
@@ -64,8 +64,8 @@ LOCAL = [
     ("replay_text/proofs/compare/Proof.antt", "step_words", "right_words"),
     ("step_work/proofs/Counted.antt", "one_bit", "single_bit"),
 ]
-# Constructors that one line declares together.
-TOGETHER = "roleA roleB roleC partA partB partC partD".split()
+# Constructors that one line declares together, and names that a file gives to what it imports.
+TOGETHER = "roleA roleB roleC partA partB partC partD recordReadCall recordWriteCall".split()
 # `specs.contracts` is a module of the toolchain's.
 MOVED = ("answers", "Contracts", "Promised")
 

@@ -28,7 +28,7 @@ use Rattle.kinds.specs.declared.Entry.{Entry}
 use Rattle.places.specs.PlaceCalls.{place_call, find_call}
 use Rattle.unpack.specs.UnpackCall.{unpack_call}
 use Rattle.pack.specs.PackCall.{too_wide, pack_call}
-use Rattle.template.specs.Templates.{read_call as recordReadCall, write_call as recordWriteCall}
+use Rattle.template.specs.Templates.{read_call as record_read_call, write_call as record_write_call}
 use Rattle.step.specs.StepCalls.{step_call, plain_call}
 use Rattle.run.specs.declared.Run.{Run}
 use Rattle.run.specs.RunCalls.{open_call, feed_call, read_call, marks_call}
@@ -94,8 +94,8 @@ module _ (k r : ℕ) where
   pack_order matrix words = refl
 
 pub record_orders : (bytes words : List ℕ)
-    → (order_of (recordReadCall bytes words).refusals ≡ (5, 0) ∷ (5, 1) ∷ [])
-    × (order_of (recordWriteCall words bytes).refusals ≡ (5, 0) ∷ (5, 1) ∷ [])
+    → (order_of (record_read_call bytes words).refusals ≡ (5, 0) ∷ (5, 1) ∷ [])
+    × (order_of (record_write_call words bytes).refusals ≡ (5, 0) ∷ (5, 1) ∷ [])
 record_orders bytes words = (refl, refl)
 
 module _ (k signs mode : ℕ) (a b c d : List ℕ) where

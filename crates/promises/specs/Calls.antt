@@ -5,7 +5,7 @@ use Rattle.kinds.specs.Places.{Place}
 use Rattle.places.specs.PlaceCalls.{place_call, find_call}
 use Rattle.unpack.specs.UnpackCall.{unpack_call}
 use Rattle.pack.specs.PackCall.{pack_call}
-use Rattle.template.specs.Templates.{read_call as recordReadCall, write_call as recordWriteCall}
+use Rattle.template.specs.Templates.{read_call as record_read_call, write_call as record_write_call}
 use Rattle.step.specs.StepCalls.{step_call, plain_call}
 use Rattle.run.specs.declared.Run.{Run}
 use Rattle.run.specs.RunCalls.{open_call, feed_call, read_call, marks_call}
@@ -17,8 +17,8 @@ pub data OfBench : (X : Type 0) → Call X → Type 1 where
   find : (kind role row column : ℕ) → OfBench (ℕ × ℕ) (find_call kind role row column)
   unpack : (kind role : ℕ) (words matrix : List ℕ) → OfBench (List ℕ) (unpack_call kind role words matrix)
   pack : (kind role : ℕ) (matrix words : List ℕ) → OfBench (List ℕ) (pack_call kind role matrix words)
-  read_record : (bytes words : List ℕ) → OfBench (List ℕ) (recordReadCall bytes words)
-  write_record : (words bytes : List ℕ) → OfBench (List ℕ) (recordWriteCall words bytes)
+  read_record : (bytes words : List ℕ) → OfBench (List ℕ) (record_read_call bytes words)
+  write_record : (words bytes : List ℕ) → OfBench (List ℕ) (record_write_call words bytes)
   step : (kind signs mode : ℕ) (a b c d : List ℕ) → OfBench (List ℕ) (step_call kind signs mode a b c d)
   plain_step : (kind : ℕ) (a b c d : List ℕ) → OfBench (List ℕ) (plain_call kind a b c d)
   open_run : (kind signs mode : ℕ) (c : List ℕ) → OfBench Run (open_call kind signs mode c)

@@ -265,18 +265,20 @@ module _ (k : ℕ) (ok : Arithmetic k) where
     unfolding cuts
     entry_cut row column hr hc = entry_at_lem (cut_at k signs mode a b c) cut_lt row column hr hc
 
-    -- each of them is 0 or 1, and 0 where the step can't clamp
-    pub cuts_lt : (j : ℕ) → get_or (cuts k signs mode a b c) j 0 < 2
+    -- what holds of 0 and at every place holds of each of them: so each is 0 or 1, and 0 where the step can't clamp
+    cuts_each : (P : ℕ → Type 0) → P 0 → ((row column : ℕ) → P (cut_at k signs mode a b c row column)) → (j : ℕ) → P (get_or (cuts k signs mode a b c) j 0)
     unfolding cuts
-    cuts_lt = words_each (cut_at k signs mode a b c) cut_lt (λ x. x < 2) (omega arith) (λ row column. omega (arith, cut_le row column))
+    cuts_each = words_each (cut_at k signs mode a b c) cut_lt
+
+    pub cuts_lt : (j : ℕ) → get_or (cuts k signs mode a b c) j 0 < 2
+    cuts_lt = cuts_each (λ x. x < 2) (omega arith) (λ row column. omega (arith, cut_le row column))
 
     pub uncut_at : limit k mode ≡ 0 → (row column : ℕ) → cut_at k signs mode a b c row column ≡ 0
     unfolding cut_at mark_of
     uncut_at z row column = rw z refl
 
     pub uncut : limit k mode ≡ 0 → (j : ℕ) → get_or (cuts k signs mode a b c) j 0 ≡ 0
-    unfolding cuts
-    uncut z = words_each (cut_at k signs mode a b c) cut_lt (λ x. x ≡ 0) refl (uncut_at z)
+    uncut z = cuts_each (λ x. x ≡ 0) refl (uncut_at z)
 
   -- every entry of C or D is a 32-bit number
   pub entry_lt : (ws : List ℕ) (row column : ℕ) → row < rows e (role_of 2) → column < columns e (role_of 2) → entry_in k 2 ws row column < 2 ^ 32
