@@ -1,9 +1,12 @@
 -- The place was given or refused, and the line is that answer's. Assumes nothing.
-use Rattle.std.proofs.Common.{rules, sym, ap, ◌∙◌}
+use Rattle.std.proofs.Common.{rules, arith, ◌<◌, sym, ap, ◌∙◌}
 use Rattle.answers.proofs.Demand1.{reply_is}
+use Rattle.answers.specs.Refusals.{number_of}
 use Rattle.places.specs.PlaceCalls.{told_place, place_answer}
+use Rattle.text.specs.Text.{refused_line, Pushed}
+use Rattle.text.proofs.Laws.{pushed_ends, refused_length}
 use Rattle.lookup_text.specs.Text.{line_of}
-use Rattle.lookup_text.proofs.Laws.{place_small}
+use Rattle.lookup_text.proofs.Laws.{three, place_small}
 use Rattle.lookup_text.proofs.put_line.Goals as goal
 
 pub put_place-requires : goal.put_place-requires
@@ -19,4 +22,7 @@ returns-in-At c = rw (sym (ap told_place c.in-At.is) ∙ reply_is c.place.ensure
 
 pub returns-in-Refused : goal.returns-in-Refused
 unfolding line_of place_answer
-returns-in-Refused c = rw (← (sym (ap told_place c.in-Refused.is) ∙ reply_is c.place.ensures), ← c.number.ensures) c.put_refused.ensures
+returns-in-Refused c =
+    let said : Pushed (refused_line (number_of c.in-Refused.x)) c.args.text.now c.push_refused.new.self = search rules in
+    let number : number_of c.in-Refused.x < 1000 = search rules in
+    (rw (← (sym (ap told_place c.in-Refused.is) ∙ reply_is c.place.ensures)) said, pushed_ends said 13 (omega (arith, refused_length, three _ number)))
