@@ -1,26 +1,24 @@
 // What the lookup program prints for its input: a line for each record of four bytes.
 #![tactic(auto)]
 
-ghost use Rattle.std.specs.Prelude.{◌≡◌, ◌+◌, ◌*◌, ◌/◌, ◌<◌, ◌≤◌, length, take};
-ghost use Rattle.answers.specs.Refusals.{given};
-ghost use Rattle.places.specs.PlaceCalls.{place_answer};
+ghost use Rattle.std.specs.Prelude.{Ok, ◌≡◌, ◌+◌, ◌*◌, ◌/◌, ◌<◌, ◌≤◌, length, take};
+ghost use Rattle.places.specs.PlaceCalls.{told_place, place_answer};
 ghost use Rattle.lookup_text.specs.Text.{line_of, printed};
 ghost use Rattle.text.specs.Text.{HasRoom, Put, Pushed};
 
-use kinds::{Bit, Column, Element, Kind, Lane, Role, Row, Word};
+use kinds::{Element, Kind, Lane, Role};
 use places::Placed;
 use text::Text;
 
 #[tactic(auto, using(crate::proofs::Laws::one, crate::proofs::Laws::two, crate::proofs::Laws::three))]
-fn put_place(text: &mut Text<'_>, row: Row, column: Column, word: Word, bit: Bit)
-    requires { HasRoom 13 text.old × (row.0 < 1000) × (column.0 < 1000) × (word.0 < 10) × (bit.0 < 100) }
-    ensures { Pushed (line_of (given (row.0, column.0, word.0, bit.0))) text.old text.new
-        × (text.new.len ≤ text.old.len + 13) }
+fn put_place(text: &mut Text<'_>, place: Placed)
+    requires { HasRoom 13 text.old × (place.row.0 < 1000) × (place.column.0 < 1000) × (place.word.0 < 10) × (place.bit.0 < 100) }
+    ensures { Pushed (line_of (told_place (Ok place))) text.old text.new × (text.new.len ≤ text.old.len + 13) }
 {
-    text.push_decimal(row.0 as u64);
-    text.push_next(column.0);
-    text.push_next(word.0);
-    text.push_next(bit.0);
+    text.push_decimal(place.row.0 as u64);
+    text.push_next(place.column.0);
+    text.push_next(place.word.0);
+    text.push_next(place.bit.0);
     text.push(b'\n');
 }
 
@@ -28,8 +26,7 @@ fn put_place(text: &mut Text<'_>, row: Row, column: Column, word: Word, bit: Bit
 #[tactic(auto, using(crate::proofs::Laws::three, text::proofs::Laws::refused_length))]
 pub fn put_line(text: &mut Text<'_>, kind: u8, role: u8, lane: u8, element: u8)
     requires { HasRoom 13 text.old }
-    ensures { Pushed (line_of (place_answer kind role lane element)) text.old text.new
-        × (text.new.len ≤ text.old.len + 13) }
+    ensures { Pushed (line_of (place_answer kind role lane element)) text.old text.new × (text.new.len ≤ text.old.len + 13) }
 {
     match places::place(
         Kind(kind as u32),
@@ -37,8 +34,8 @@ pub fn put_line(text: &mut Text<'_>, kind: u8, role: u8, lane: u8, element: u8)
         Lane(lane as u32),
         Element(element as u32),
     ) {
-        Placed::At(row, column, word, bit) => put_place(text, row, column, word, bit),
-        Placed::Refused(x) => text.push_refused(x.number()),
+        Ok(place) => put_place(text, place),
+        Err(refusal) => text.push_refused(refusal.number()),
     }
 }
 

@@ -13,16 +13,16 @@ pub put_place-requires : goal.put_place-requires
 unfolding place_answer
 put_place-requires c =
     let x = c.args in
-    let small = place_small x.kind x.role x.lane x.element _ (sym (reply_is c.place.ensures) ∙ ap told_place c.in-At.is) in
+    let small = place_small x.kind x.role x.lane x.element _ (sym (reply_is c.place.ensures) ∙ ap told_place c.in-Ok.is) in
     search rules
 
-pub returns-in-At : goal.returns-in-At
+pub returns-in-Ok : goal.returns-in-Ok
 unfolding place_answer
-returns-in-At c = rw (sym (ap told_place c.in-At.is) ∙ reply_is c.place.ensures) at c.put_place.ensures
+returns-in-Ok c = rw (sym (ap told_place c.in-Ok.is) ∙ reply_is c.place.ensures) at c.put_place.ensures
 
-pub returns-in-Refused : goal.returns-in-Refused
+pub returns-in-Err : goal.returns-in-Err
 unfolding line_of place_answer
-returns-in-Refused c =
-    let said : Pushed (refused_line (number_of c.in-Refused.x)) c.args.text.now c.push_refused.new.self = search rules in
-    let number : number_of c.in-Refused.x < 1000 = search rules in
-    (rw (← (sym (ap told_place c.in-Refused.is) ∙ reply_is c.place.ensures)) said, pushed_ends said 13 (omega (arith, refused_length, three _ number)))
+returns-in-Err c =
+    let said : Pushed (refused_line (number_of c.in-Err.refusal)) c.args.text.now c.push_refused.new.self = search rules in
+    let number : number_of c.in-Err.refusal < 1000 = search rules in
+    (rw (← (sym (ap told_place c.in-Err.is) ∙ reply_is c.place.ensures)) said, pushed_ends said 13 (omega (arith, refused_length, three _ number)))
