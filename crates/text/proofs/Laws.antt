@@ -1,7 +1,7 @@
 -- Texts put one after another, and the digits of a number: the kit's fewest digits are the definition's. Assumes nothing.
 use mathlib.Core.Path.{◌≡◌, refl, sym, ap, ap₂, subst, ◌∙◌}
 use mathlib.Core.Bool.{Bool, true, false}
-use mathlib.Core.List.{List, [], ◌∷◌, ◌++◌, append_assoc, append-nil}
+use mathlib.Core.List.{List, [], ◌∷◌, ◌++◌, append_assoc}
 use Prim.Native.Nat.{ℕ, zero, suc, ◌+◌, ◌-◌, ◌*◌, ◌/◌, ◌%◌, ◌^◌, ◌<◌, ◌≤◌}
 use lib.Pow.{pow-add}
 use native.Mathlib.Nat.{mul-le-mul_left, not-suc-le-zero, le_of_suc-le-suc, mod-lt, mod-eq_of_lt, div-lt_iff_lt-mul, le-div_iff_mul-le}
@@ -17,10 +17,7 @@ use Rattle.io.specs.Digits.{hex_digit_ascii, last_digits, IsDigitCount}
 use Rattle.text.specs.Text.{digit, decimal_in, decimal, refused_line, Put, Pushed}
 use Rattle.text.specs.declared.Text.{Text}
 
--- no text, one byte, and a text after a text
-pub put_none : (xs : List ℕ) (at : ℕ) → Put [] xs at xs at
-put_none xs at = record { says = sym (append-nil (take at xs)); ends = omega arith; behind = refl; keeps = refl }
-
+-- bytes that were copied over a part of a buffer, and a text after a text
 pub put_bytes : (xs ys bytes : List ℕ) (at n : ℕ) → ys ≡ bytes → n ≡ length bytes → at + n ≤ length xs → Put bytes xs at (put_mid at n xs ys) (at + length bytes)
 put_bytes xs ys bytes at n e long fit = record {
   says = rw e (take-put_mid at n xs bytes (at + length bytes) refl (omega arith));
@@ -29,7 +26,7 @@ put_bytes xs ys bytes at n e long fit = record {
   keeps = same_len_mid at n xs ys (omega (arith, ap length e, length-take-le n (drop at xs) (omega (arith, length-drop at xs))));
 }
 
-pub put_put : {t u xs ys zs : List ℕ} {a b c : ℕ} → Put t xs a ys b → Put u ys b zs c → Put (t ++ u) xs a zs c
+put_put : {t u xs ys zs : List ℕ} {a b c : ℕ} → Put t xs a ys b → Put u ys b zs c → Put (t ++ u) xs a zs c
 put_put {t} {u} {xs} {ys} {zs} {a} {b} {c} p q = record {
   says = q.says ∙ ap (λ (l : List ℕ). l ++ u) p.says ∙ append_assoc (take a xs) t u;
   ends = simp length-append (omega arith);
@@ -42,14 +39,11 @@ put_put {t} {u} {xs} {ys} {zs} {a} {b} {c} p q = record {
         let n : c ≡ b + (c - b) = omega arith in
         ap (λ (m : ℕ). drop m ys) n ∙ sym (drop-drop (c - b) b ys) ∙ ap (drop (c - b)) e ∙ drop-drop (c - b) b xs ∙ ap (λ (m : ℕ). drop m xs) (sym n)
 
-pub put_same : {t u xs ys : List ℕ} {a b : ℕ} → t ≡ u → Put u xs a ys b → Put t xs a ys b
-put_same {t} {u} {xs} {ys} {a} {b} e = subst (λ (t : List ℕ). Put t xs a ys b) (sym e)
-
 pub pushed_more : {t u : List ℕ} {a b c : Text} → Pushed t a b → Pushed u b c → Pushed (t ++ u) a c
 pushed_more p q = record { put = put_put p.put q.put; same_buffer = q.same_buffer ∙ p.same_buffer }
 
 pub pushed_same : {t u : List ℕ} {a b : Text} → t ≡ u → Pushed u a b → Pushed t a b
-pushed_same e p = record { put = put_same e p.put; same_buffer = p.same_buffer }
+pushed_same {t} {u} {a} {b} e = subst (λ (t : List ℕ). Pushed t a b) (sym e)
 
 -- from an empty text on, by what its buffer held and holds
 pub pushed_put : {t xs ys : List ℕ} {n : ℕ} {a b : Text} → Pushed t a b → a.out.now ≡ xs → a.len ≡ 0 → b.out.now ≡ ys → n ≡ b.len → Put t xs 0 ys n

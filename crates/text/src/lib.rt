@@ -1,4 +1,4 @@
-// A text in a buffer, and what is pushed behind it: bytes, numbers in decimal, and the line of a refusal.
+// A text in a buffer that is lent, and what is pushed behind it: bytes, numbers in decimal, and the line of a refusal.
 #![tactic(auto)]
 
 ghost use Rattle.std.specs.Prelude.{◌≡◌, [], ◌∷◌, ◌+◌, ◌<◌, ◌≤◌, length};
@@ -17,16 +17,7 @@ impl<'a> Text<'a> {
         ensures bytes { result.out.now ≡ out.old }
         ensures empty { result.len ≡ 0 }
     {
-        Text::behind(out, 0)
-    }
-
-    // Behind the bytes that stand there.
-    pub fn behind(out: &'a mut [u8], len: usize) -> Text<'a>
-        ensures same_buffer { result.out.ghost_name ≡ out.entry.ghost_name }
-        ensures bytes { result.out.now ≡ out.old }
-        ensures len { result.len ≡ len }
-    {
-        Text { out, len }
+        Text { out, len: 0 }
     }
 
     pub fn len(&self) -> usize
@@ -35,11 +26,11 @@ impl<'a> Text<'a> {
         self.len
     }
 
-    pub fn push(&mut self, b: u8)
+    pub fn push(&mut self, byte: u8)
         requires { HasRoom 1 self.old }
-        ensures { Pushed (b ∷ []) self.old self.new }
+        ensures { Pushed (byte ∷ []) self.old self.new }
     {
-        self.out[self.len] = b;
+        self.out[self.len] = byte;
         self.len += 1;
     }
 
@@ -69,7 +60,7 @@ impl<'a> Text<'a> {
     }
 
     fn push_two_digits(&mut self, n: u64)
-        requires { (10 ≤ n) × (n < 100) × (HasRoom (length (decimal n)) self.old) }
+        requires { (10 ≤ n) × (n < 100) × HasRoom (length (decimal n)) self.old }
         ensures { Pushed (decimal n) self.old self.new }
     {
         self.push(b'0' + (n / 10) as u8);
@@ -85,6 +76,7 @@ impl<'a> Text<'a> {
         self.push_decimal(n as u64);
     }
 
+    #[tactic(auto, using(crate::proofs::Laws::refused_length))]
     pub fn push_refused(&mut self, number: u32)
         requires { HasRoom (length (refused_line number)) self.old }
         ensures { Pushed (refused_line number) self.old self.new }
