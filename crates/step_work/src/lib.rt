@@ -10,6 +10,7 @@ ghost use Rattle.step_limit.specs.Marks.{kept_marks};
 ghost use Rattle.step_products.specs.Sums.{offset_of};
 
 use kinds::{Entry, Kind, Layouts, Mode, Signs};
+use step_ones::Counter;
 use step_products::Offsets;
 
 fn unsigned_a(signs: Signs) -> bool
@@ -83,22 +84,19 @@ fn multiply(
     step_products::cells(l, mode, h, &x, &y, c, d, marks);
 }
 
-// The one-bit kinds. Their spans and halves are written out, so that the compiler makes a loop of each. With one word a lane the words lie in lines
-// as they are.
+// The one-bit kinds, each by its spans and halves. With one word a lane the words lie in lines as they are.
 fn count(kind: Kind, line: Entry, mode: Mode, a: &[u32], b: &[u32], c: &[u32], d: &mut [u32])
     requires arithmetic { Arithmetic kind.0 × Says (one_bit kind.0) × (mode.0 ≤ 1) × (line ≡ entry_of kind.0) }
     requires sized { Sized kind.0 (length a.now) (length b.now) (length c.now) (length d.old) }
     ensures { d.new ≡ stepped kind.0 0 mode.0 a.now b.now c.now }
 {
     if line.m == 8 {
-        step_ones::fill(1, 1, mode, a, b, c, d);
-        return;
+        Counter::<1, 1> { mode }.fill(a, b, c, d);
+    } else if line.b == 1 {
+        Counter::<1, 2> { mode }.fill_in_lines(a, b, c, d);
+    } else {
+        Counter::<2, 2> { mode }.fill_in_lines(a, b, c, d);
     }
-    if line.b == 1 {
-        step_ones::fill_in_lines(1, 2, mode, a, b, c, d);
-        return;
-    }
-    step_ones::fill_in_lines(2, 2, mode, a, b, c, d);
 }
 
 // The words of D, and the marks with those that are set now, for numbers and lengths that were judged: the worker of a step and of a run's feed. The
