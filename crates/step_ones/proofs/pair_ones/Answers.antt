@@ -31,6 +31,6 @@ pub returns : goal.returns
 returns c =
     let s = c.args in
     elim c.if-is_xor.branch [
-      | then-is_xor w ↦ xor s.mode.0 s.x s.y (omega arith) (omega arith) _ _ c.from.ensures w.if-is_xor.true w.combined-is
-      | else-is_xor w ↦ and s.mode.0 s.x s.y (omega arith) (omega arith) _ _ c.from.ensures w.if-is_xor.false w.combined-is
+      | then-is_xor w ↦ xor s.mode.0 s.x s.y (omega arith) (omega arith) _ _ refl w.if-is_xor.true w.combined-is
+      | else-is_xor w ↦ and s.mode.0 s.x s.y (omega arith) (omega arith) _ _ refl w.if-is_xor.false w.combined-is
     ]

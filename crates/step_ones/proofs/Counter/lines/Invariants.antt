@@ -8,4 +8,4 @@ word spans halves ws = blocks (spans * 4) (λ x q. get_or ws (word_at spans halv
 
 -- The loop stores the words of the lines in order.
 abbrev pub invariant-loop-k : goal.invariant-loop-k
-invariant-loop-k g l = l.out ≡ fills 0 l.k (word g.row.SPANS g.row.HALVES l.words) l.initial.out
+invariant-loop-k g l = l.rows ≡ fills 0 l.k (word g.row.SPANS g.row.HALVES l.words) l.initial.rows

@@ -5,4 +5,4 @@ use Rattle.step_ones.proofs.Counter.ones_of.Given as goal
 
 -- After q turns the sum is the ones among the combined bits of the first q pairs.
 abbrev pub invariant-loop-q : goal.invariant-loop-q
-invariant-loop-q g l = (l.sum ≤ 64 * l.q) × (l.sum ≡ ones_in (down_bits l.self.mode.0 l.q l.x l.y (l.row * (g.row.SPANS * 4)) l.column))
+invariant-loop-q g l = (l.ones ≤ 64 * l.q) × (l.ones ≡ ones_in (down_bits l.self.mode.0 l.q l.rows l.pairs (l.row * (g.row.SPANS * 4)) l.column))

@@ -8,4 +8,4 @@ pair_at spans ws = blocks 8 (λ q column. pair_of spans ws column q)
 
 -- The loop stores the pairs in order, eight columns for each number.
 abbrev pub invariant-loop-k : goal.invariant-loop-k
-invariant-loop-k g l = l.out ≡ fills 0 l.k (pair_at g.row.SPANS l.words) l.initial.out
+invariant-loop-k g l = l.pair-items ≡ fills 0 l.k (pair_at g.row.SPANS l.words) l.initial.pair-items

@@ -10,4 +10,4 @@ word halves s c = blocks (2 * halves) (λ lane i. cell_of 0 (get_or c (lane * (2
 
 -- The loop stores the words of D in order, each with the ones at its row and column.
 abbrev pub invariant-loop-k : goal.invariant-loop-k
-invariant-loop-k g l = l.d ≡ fills 0 l.k (word g.row.HALVES l.s l.c) l.initial.d
+invariant-loop-k g l = l.d ≡ fills 0 l.k (word g.row.HALVES l.sums l.c) l.initial.d
