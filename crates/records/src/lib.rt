@@ -1,7 +1,8 @@
 // Step records, as the card's logger writes them: 1,800 bytes with kind, signs, mode, five reserved bytes, then the words of A, B, C and D.
 #![tactic(auto)]
 
-ghost use Rattle.std.specs.Prelude.{◌≡◌, ◌+◌, ◌*◌, ◌^◌, ◌≤◌, length, drop, IfOk};
+ghost use Rattle.std.specs.Prelude.{◌≡◌, ◌+◌, ◌*◌, ◌^◌, ◌≤◌, length, drop, not, ◌==◌, IfOk};
+ghost use Rattle.std.specs.List.{list_any};
 ghost use Rattle.answers.specs.Promised.{Replies, Tells};
 ghost use Rattle.kinds.specs.Kinds.{entry_of, Arithmetic};
 ghost use Rattle.step.specs.Workers.{told_line};
@@ -98,18 +99,18 @@ impl Header {
     }
 }
 
-// Whether one of some bytes is not zero.
+fn any_not_zero(bytes: &[u8]) -> bool
+    ensures { result ≡ list_any (λ b. not (b == 0)) bytes.now }
+{
+    bytes.iter().any(|byte| *byte != 0)
+}
+
+// Whether one of some bytes is not zero, as a test of the refusals.
+#[tactic(auto, using(crate::proofs::Laws::not_zero_told))]
 fn not_zero(bytes: &[u8]) -> bool
     ensures { Tells (not_zero bytes.now) result }
 {
-    let mut i = 0;
-    while i < bytes.len() {
-        if bytes[i] != 0 {
-            return true;
-        }
-        i += 1;
-    }
-    false
+    any_not_zero(bytes)
 }
 
 // Whether the tail of a part is not zero, behind so many words.
