@@ -96,7 +96,9 @@ fn main(rt: HostRuntime) -> ExitCode {
         return ExitCode::SUCCESS;
     }
     let mut what = [0u8; 4104];
-    let at = text::put_text(&mut what, 0, b"replay: ");
+    let program = b"replay: ";
+    let at = program.len();
+    what[..at].copy_from_slice(program);
     let opened = stream::open_argument(&rt, 1, &mut what, at);
     let named = opened.named;
     replay(&rt, opened.source, &what[..named])

@@ -8,7 +8,7 @@ ghost use Rattle.kinds.specs.Kinds.{entry_of, Arithmetic};
 ghost use Rattle.buffers.specs.Buffers.{words_needed};
 ghost use Rattle.step_work.specs.Workers.{Ready};
 ghost use Rattle.records.specs.Records.{record_bytes, words_in};
-ghost use Rattle.text.specs.Text.{Put};
+ghost use Rattle.text.specs.Text.{HasRoom, Put, Pushed};
 ghost use Rattle.replay_text.specs.Verdicts.{wrong, compared, replay_call, verdict_of, told_replay, told_wrong};
 ghost use Rattle.replay_text.specs.Workers.{word_no, step_words, compared_by};
 ghost use Rattle.replay_text.specs.Text.{verdict_text, line_of, whole_records, printed_from};
@@ -16,6 +16,7 @@ ghost use Rattle.replay_text.specs.Text.{verdict_text, line_of, whole_records, p
 use answers::Refusal;
 use kinds::{Column, Row, rule};
 use step_work::Selected;
+use text::Text;
 
 // The first place, row by row, at which D is wrong.
 #[derive(Clone, Copy, Debug, PartialEq, Eq)]
@@ -103,55 +104,52 @@ pub fn replay(record: &[u8]) -> Result<Option<Wrong>, Refusal>
     Ok(compare(s, record))
 }
 
-// Each function puts a text into out at a place, and answers the place after it.
-fn put_wrong(out: &mut [u8], at: usize, row: u32, column: u32) -> usize
-    requires { at + 28 ≤ length out.old }
-    ensures { Put (verdict_text (given (wrong row column))) out.old at out.new result ×
-        (result ≤ at + 28) }
+#[tactic(auto, using(crate::proofs::Lines::ten), unfolding(crate::specs::Text::verdict_text))]
+fn put_wrong(text: &mut Text<'_>, row: Row, column: Column)
+    requires { HasRoom 28 text.old }
+    ensures { Pushed (verdict_text (given (wrong row.0 column.0))) text.old text.new × (text.new.len ≤ text.old.len + 28) }
 {
-    let after_text = text::put_text(out, at, b"wrong");
-    let after_row = text::put_next(out, after_text, row);
-    let after_column = text::put_next(out, after_row, column);
-    text::put(out, after_column, b'\n')
+    text.push_text(b"wrong");
+    text.push_next(row.0);
+    text.push_next(column.0);
+    text.push(b'\n');
 }
 
-fn put_verdict(out: &mut [u8], at: usize, verdict: Result<Option<Wrong>, Refusal>) -> usize
-    requires { at + 28 ≤ length out.old }
-    ensures { Put (verdict_text (told_replay verdict)) out.old at out.new result × (result ≤ at + 28) }
+#[tactic(auto, using(crate::proofs::Lines::ten, text::proofs::Laws::refused_length), unfolding(crate::specs::Text::verdict_text))]
+fn put_verdict(text: &mut Text<'_>, verdict: Result<Option<Wrong>, Refusal>)
+    requires { HasRoom 28 text.old }
+    ensures { Pushed (verdict_text (told_replay verdict)) text.old text.new × (text.new.len ≤ text.old.len + 28) }
 {
     match verdict {
-        Ok(None) => text::put_text(out, at, b"ok\n"),
-        Ok(Some(wrong)) => put_wrong(out, at, wrong.row.0, wrong.column.0),
-        Err(x) => text::put_refused(out, at, x.number()),
+        Ok(None) => text.push_text(b"ok\n"),
+        Ok(Some(wrong)) => put_wrong(text, wrong.row, wrong.column),
+        Err(x) => text.push_refused(x.number()),
     }
 }
 
 // The line of one record.
-pub fn put_line(out: &mut [u8], at: usize, number: u64, record: &[u8]) -> usize
-    requires { (at + 49 ≤ length out.old) × (length «record».now ≡ record_bytes) }
-    ensures { Put (line_of number (verdict_of «record».now)) out.old at out.new result ×
-        (result ≤ at + 49) }
+#[tactic(auto, using(crate::proofs::Lines::twenty))]
+pub fn put_line(text: &mut Text<'_>, number: u64, record: &[u8])
+    requires { HasRoom 49 text.old × (length «record».now ≡ record_bytes) }
+    ensures { Pushed (line_of number (verdict_of «record».now)) text.old text.new × (text.new.len ≤ text.old.len + 49) }
 {
-    let after_number = text::put_decimal(out, at, number);
-    let after_space = text::put(out, after_number, b' ');
-    put_verdict(out, after_space, replay(record))
+    text.push_decimal(number);
+    text.push(b' ');
+    put_verdict(text, replay(record));
 }
 
 // All that is printed for a part of the input that ends at a whole record or at the end of the input, whose first record has that number; the answer is
 // the text's length. The second `ensures` is what `&out[..r]` asks of its caller.
+#[tactic(auto, unfolding(crate::specs::Text::lines_of))]
 pub fn put_lines(number: u64, bytes: &[u8], out: &mut [u8]) -> usize
     requires { (49 * whole_records bytes.now ≤ length out.old) × (number + whole_records bytes.now < 2 ^ 64) }
     ensures put { Put (printed_from number bytes.now) out.old 0 out.new result }
     ensures upper_bound { (result ≤ length out.new) × (result ≡ length (take result out.new)) }
 {
-    let whole = bytes.len() / records::BYTES;
-    let mut at = 0;
-    let mut i = 0;
-    while i < whole {
-        let from = records::BYTES * i;
-        let until = from + records::BYTES;
-        at = put_line(out, at, number + i as u64, &bytes[from..until]);
-        i += 1;
+    let (whole, _) = bytes.as_chunks::<{ records::BYTES }>();
+    let mut text = Text::new(out);
+    for (i, record) in whole.iter().enumerate() {
+        put_line(&mut text, number + i as u64, record);
     }
-    at
+    text.len()
 }

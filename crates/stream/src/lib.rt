@@ -95,7 +95,9 @@ fn standard_input(rt: &HostRuntime, what: &mut [u8], at: usize) -> Opened
     requires { at + 4096 ≤ length what.old }
     ensures { IsPrefixLen result.named what.new }
 {
-    let named = text::put_text(what, at, b"standard input");
+    let name = b"standard input";
+    let named = at + name.len();
+    what[at..named].copy_from_slice(name);
     Opened {
         source: Ok(Source::Standard(rt.stdin())),
         named,
