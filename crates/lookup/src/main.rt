@@ -2,7 +2,7 @@
 // which bytes is `lookup_text::put_lines`; here bytes are only moved, and what fails is said on standard error.
 #![tactic(auto)]
 
-ghost use Rattle.std.specs.Prelude.{◌≡◌, ℕ, ◌-◌, ◌%◌, ◌^◌, ◌<◌, ◌↔◌, List, length, take, true, false, IsTrue, IsNone, IsSome, IfSome, IsOk, IfOk, OnOk};
+ghost use Rattle.std.specs.Prelude.{◌≡◌, ℕ, ◌-◌, ◌%◌, ◌^◌, ◌<◌, ◌≤◌, ◌↔◌, List, length, take, true, false, IsTrue, IsNone, IsSome, IfSome, IsOk, IfOk, OnOk};
 ghost use Rattle.std.specs.Io.KnownBytes.{Appends, Consumes, IsAtEnd};
 ghost use Rattle.lookup_text.specs.Text.{printed};
 ghost use Rattle.std.specs.Counts.{IsPrefixLen};
@@ -23,6 +23,7 @@ struct Came {
 impl Came {
     // The bytes that lines are printed for: all that came, or the whole records alone where the rest of one could not be read.
     fn told(&self) -> usize
+        ensures in_bounds { result ≤ self.now.bytes }
         ensures all { IsNone self.now.failed → result ≡ self.now.bytes }
         ensures whole { IsSome self.now.failed → result ≡ self.now.bytes - self.now.bytes % 4 }
     {

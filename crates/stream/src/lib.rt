@@ -13,7 +13,7 @@ use std::fs::File;
 use std::io::{ErrorKind, Read, Stdin};
 use std::{fmt, io, str};
 
-// What ended a program before its input did.
+// What ended a program before its input did. As a text it calls the input standard input: a program that reads a file says the file's name.
 #[derive(Debug, Drop)]
 pub enum Failed {
     Input(io::Error),
