@@ -2,45 +2,46 @@
 #![tactic(auto)]
 
 ghost use Rattle.std.specs.Prelude.{◌≡◌, ◌<◌, ◌≤◌};
+ghost use Rattle.answers.specs.Refusals.{told};
 ghost use Rattle.answers.specs.Promised.{Replies};
 ghost use Rattle.kinds.specs.Kinds.{kinds, sum_bits, entry_of, role_of};
 ghost use Rattle.kinds.specs.Places.{word_within, lowest_bit};
 ghost use Rattle.kinds.specs.Rule.{spread, side_of, layout_of};
-ghost use Rattle.kinds.specs.Workers.{LineAt, told_layout, layout_call, layouts_of, Laid};
+ghost use Rattle.kinds.specs.Workers.{LineAt, layout_call, layouts_of, Laid};
 
 use answers::Refusal;
 
 pub mod rule;
 
 // Every number that could be taken for another has its own type. Any u32 may stand in it: what is out of range is refused.
-#[derive(Clone, Copy)]
+#[derive(Clone, Copy, Debug, PartialEq, Eq)]
 pub struct Kind(pub u32);
 
-#[derive(Clone, Copy)]
+#[derive(Clone, Copy, Debug, PartialEq, Eq)]
 pub struct Role(pub u32);
 
-#[derive(Clone, Copy)]
+#[derive(Clone, Copy, Debug, PartialEq, Eq)]
 pub struct Lane(pub u32);
 
-#[derive(Clone, Copy)]
+#[derive(Clone, Copy, Debug, PartialEq, Eq)]
 pub struct Element(pub u32);
 
-#[derive(Clone, Copy)]
+#[derive(Clone, Copy, Debug, PartialEq, Eq)]
 pub struct Row(pub u32);
 
-#[derive(Clone, Copy)]
+#[derive(Clone, Copy, Debug, PartialEq, Eq)]
 pub struct Column(pub u32);
 
-#[derive(Clone, Copy)]
+#[derive(Clone, Copy, Debug, PartialEq, Eq)]
 pub struct Word(pub u32);
 
-#[derive(Clone, Copy)]
+#[derive(Clone, Copy, Debug, PartialEq, Eq)]
 pub struct Bit(pub u32);
 
-#[derive(Clone, Copy)]
+#[derive(Clone, Copy, Debug, PartialEq, Eq)]
 pub struct Signs(pub u32);
 
-#[derive(Clone, Copy)]
+#[derive(Clone, Copy, Debug, PartialEq, Eq)]
 pub struct Mode(pub u32);
 
 impl Kind {
@@ -208,12 +209,6 @@ pub struct Layout {
     pub turned: bool,
 }
 
-#[derive(Clone, Copy)]
-pub enum Known {
-    As(Layout),
-    Refused(Refusal),
-}
-
 impl Layout {
     // The layout whose matrix has so many major and minor numbers.
     fn new(bits: u16, words: u16, side: u16, majors: u16, minors: u16, turned: bool) -> Layout
@@ -290,19 +285,19 @@ impl Layouts {
 }
 
 // The layout of a kind and a role, or refusal 1 or 2.
-pub fn layout_of(kind: Kind, role: Role) -> Known
-    ensures { Replies (layout_call kind.0 role.0) (told_layout result) }
+pub fn layout_of(kind: Kind, role: Role) -> Result<Layout, Refusal>
+    ensures { Replies (layout_call kind.0 role.0) (told result) }
 {
     let k = kind.0;
     let r = role.0;
     if k < 1 {
-        return Known::Refused(Refusal::UnknownKind);
+        return Err(Refusal::UnknownKind);
     }
     if Kind::COUNT < k {
-        return Known::Refused(Refusal::UnknownKind);
+        return Err(Refusal::UnknownKind);
     }
     if Role::C < r {
-        return Known::Refused(Refusal::UnknownRole);
+        return Err(Refusal::UnknownRole);
     }
-    Known::As(Layout::of(kind, role))
+    Ok(Layout::of(kind, role))
 }

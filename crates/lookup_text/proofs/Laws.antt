@@ -2,22 +2,24 @@
 use mathlib.Core.Path.{◌≡◌, refl, sym, ap, ◌∙◌}
 use mathlib.Core.Bool.{Bool, true, false}
 use mathlib.Core.List.{List, [], ◌∷◌, ◌++◌, append_assoc, append-nil}
-use Prim.Native.Nat.{ℕ, ◌+◌, ◌*◌, ◌%◌, ◌<◌, ◌≤◌}
-use native.Mathlib.Nat.{add-zero}
+use Prim.Native.Nat.{ℕ, zero, suc, ◌+◌, ◌*◌, ◌/◌, ◌%◌, ◌<◌, ◌≤◌}
 use native.Mathlib.Omega.{arith}
-use lib.ListN.{length, take, drop, get_or, length-take, length-drop, take-append-drop}
-use lib.Seq.{take-add, get_or-drop}
+use lib.ListN.{length, take, drop, get_or}
+use lib.Seq.{drop-drop, take_all}
+use Rattle.std.proofs.lemmas.List.{nil_from_length}
+use Rattle.std.specs.List.{flat_map}
+use Rattle.std.specs.Simd.{first_chunks}
 use Rattle.kinds.specs.Places.{Place}
 use Rattle.kinds.specs.Rule.{turn, major, minor}
-use Rattle.answers.specs.Refusals.{Answer, given}
+use Rattle.answers.specs.Refusals.{given}
 use Rattle.places.specs.PlaceCalls.{place_answer}
 use Rattle.kinds.proofs.Digits.{major_lt, minor_lt}
 use Rattle.kinds.proofs.Spots.{word_lt, bit_lt}
 use Rattle.kinds.proofs.Table.{layout_at, sane}
 use Rattle.places.proofs.ByRule.{place_legal, placed_inside}
 use Rattle.lookup_text.specs.Text.{line_of, printed, short_text}
-use Rattle.text.specs.Text.{decimal, Put}
-use Rattle.text.proofs.Laws.{put_put, decimal_length}
+use Rattle.text.specs.Text.{decimal}
+use Rattle.text.proofs.Laws.{decimal_length}
 
 -- a number below 10 takes one digit, one below 100 at most two, and one below 1,000 at most three
 pub one : (n : ℕ) → n < 10 → length (decimal n) ≤ 1
@@ -65,43 +67,30 @@ printed_short (x ∷ y ∷ []) a b = refl
 printed_short (x ∷ y ∷ z ∷ []) a b = refl
 printed_short (x ∷ y ∷ z ∷ t ∷ xs) a b = absurd (omega arith)
 
--- the record that starts at byte n: its answer and its line
-abbrev answer_at : List ℕ → ℕ → Answer Place
-answer_at xs n = place_answer (get_or xs n 0) (get_or xs (n + 1) 0) (get_or xs (n + 2) 0) (get_or xs (n + 3) 0)
+-- the line of one record, and what is printed record by record, with what is printed for the bytes that are left
+abbrev pub record_line : (bytes : List ℕ) → List ℕ
+record_line bytes = line_of (place_answer (get_or bytes 0 0) (get_or bytes 1 0) (get_or bytes 2 0) (get_or bytes 3 0))
 
-abbrev line_at : List ℕ → ℕ → List ℕ
-line_at xs n = line_of (answer_at xs n)
+printed_each : (n : ℕ) (xs : List ℕ) → 4 * n ≤ length xs → flat_map record_line (first_chunks 4 n xs) ++ printed (drop (n * 4) xs) ≡ printed xs
+unfolding printed
+printed_each zero xs h = refl
+printed_each (suc n) [] h = absurd (omega arith)
+printed_each (suc n) (a ∷ []) h = absurd (omega arith)
+printed_each (suc n) (a ∷ b ∷ []) h = absurd (omega arith)
+printed_each (suc n) (a ∷ b ∷ c ∷ []) h = absurd (omega arith)
+printed_each (suc n) (a ∷ b ∷ c ∷ d ∷ xs) h =
+    let four : suc n * 4 ≡ 4 + n * 4 = omega arith in
+    let line = line_of (place_answer a b c d) in
+    rw (four, ← drop-drop (n * 4) 4 (a ∷ b ∷ c ∷ d ∷ xs)) (append_assoc line _ _ ∙ ap (λ (l : List ℕ). line ++ l) (printed_each n xs (omega arith)))
 
-four : (xs : List ℕ) → 4 ≤ length xs → take 4 xs ≡ get_or xs 0 0 ∷ get_or xs 1 0 ∷ get_or xs 2 0 ∷ get_or xs 3 0 ∷ []
-four [] h = absurd (omega arith)
-four (x ∷ []) h = absurd (omega arith)
-four (x ∷ y ∷ []) h = absurd (omega arith)
-four (x ∷ y ∷ z ∷ []) h = absurd (omega arith)
-four (x ∷ y ∷ z ∷ t ∷ xs) h = refl
+-- all whole records, and then what is printed for the rest
+module _ (xs : List ℕ) (whole : List (List ℕ)) (rest : List ℕ) (i : ℕ) (front : whole ≡ first_chunks 4 (length xs / 4) xs) (back : rest ≡ drop (length xs / 4 * 4) xs) (all : length whole ≤ i) where
+  printed_whole : flat_map record_line (take i whole) ++ printed rest ≡ printed xs
+  printed_whole = rw (take_all i whole all, front, back) (printed_each (length xs / 4) xs (omega arith))
 
--- after the first n bytes, which are whole records: the one to three bytes that are left, or one record more
-module _ (xs : List ℕ) (n : ℕ) (w : n % 4 ≡ 0) where
-  joined : n ≤ length xs → (rest : List ℕ) → printed (take n xs ++ rest) ≡ printed (take n xs) ++ printed rest
-  joined h rest = printed_joined (take n xs) rest (simp length-take (omega arith))
-
-  pub printed_rest : n < length xs → length xs < n + 4 → printed (take n xs) ++ short_text ≡ printed xs
-  printed_rest h l =
-      ap (λ (t : List ℕ). printed (take n xs) ++ t)
-      (sym (printed_short (drop n xs) (simp length-drop (omega arith)) (simp length-drop (omega arith))))
-      ∙ sym (joined (omega arith) (drop n xs))
-      ∙ ap printed (take-append-drop n xs)
-
-  record_at_lem : n + 4 ≤ length xs → take 4 (drop n xs) ≡ get_or xs n 0 ∷ get_or xs (n + 1) 0 ∷ get_or xs (n + 2) 0 ∷ get_or xs (n + 3) 0 ∷ []
-  record_at_lem h = four (drop n xs) (simp length-drop (omega arith)) ∙ simp (get_or-drop, add-zero)
-
-  printed_more : n + 4 ≤ length xs → printed (take (n + 4) xs) ≡ printed (take n xs) ++ line_at xs n
+  pub printed_none : length rest ≡ 0 → flat_map record_line (take i whole) ≡ printed xs
   unfolding printed
-  printed_more h = rw (take-add n 4 xs, record_at_lem h) (joined (omega arith) _ ∙ simp append-nil)
+  printed_none none = sym (append-nil _) ∙ ap (λ (l : List ℕ). flat_map record_line (take i whole) ++ printed l) (sym (nil_from_length rest none)) ∙ printed_whole
 
--- one record more was put
-pub put_record : (xs : List ℕ) (i : ℕ) {ps qs rs : List ℕ} {m n : ℕ} → 4 * i + 4 ≤ length xs
-    → Put (printed (take (4 * i) xs)) ps 0 qs m → Put (line_at xs (4 * i)) qs m rs n
-    → Put (printed (take (4 * (i + 1)) xs)) ps 0 rs n
-put_record xs i h p q =
-    let more : 4 * (i + 1) ≡ 4 * i + 4 = omega arith in
-    rw (more, printed_more xs (4 * i) (omega arith) h) (put_put p q)
+  pub printed_rest : 0 < length rest → length rest < 4 → flat_map record_line (take i whole) ++ short_text ≡ printed xs
+  printed_rest some few = ap (λ (l : List ℕ). flat_map record_line (take i whole) ++ l) (sym (printed_short rest some few)) ∙ printed_whole

@@ -1,19 +1,9 @@
 -- Document 01, 'The lookup program', and document 02, K9: what it prints, as a list of bytes. Assumes nothing.
 use Rattle.std.specs.Prelude.{ℕ, List, [], ◌∷◌, ◌++◌}
-use Rattle.text.specs.Text.{decimal}
+use Rattle.text.specs.Text.{decimal, space, newline, refused_line}
 use Rattle.answers.specs.Refusals.{Answer, given, refusal}
 use Rattle.kinds.specs.Places.{Place}
 use Rattle.places.specs.PlaceCalls.{place_answer}
-
-abbrev pub space : ℕ
-space = 32
-
-abbrev pub newline : ℕ
-newline = 10
-
--- `refused` with a space
-abbrev pub refused_text : List ℕ
-refused_text = 114 ∷ 101 ∷ 102 ∷ 117 ∷ 115 ∷ 101 ∷ 100 ∷ space ∷ []
 
 -- `short record`, and a newline
 abbrev pub short_text : List ℕ
@@ -22,7 +12,7 @@ short_text = 115 ∷ 104 ∷ 111 ∷ 114 ∷ 116 ∷ space ∷ 114 ∷ 101 ∷ 9
 -- For each record it prints row, column, word and bit, with a space between two, and a newline, or `refused` with a space and the number.
 unfoldable pub line_of : Answer Place → List ℕ
 line_of (given x) = decimal x.0 ++ (space ∷ decimal x.1) ++ (space ∷ decimal x.2) ++ (space ∷ decimal x.3) ++ (newline ∷ [])
-line_of (refusal number detail) = refused_text ++ decimal number ++ (newline ∷ [])
+line_of (refusal number detail) = refused_line number
 
 -- Records of 4 bytes, no header: kind, role, lane, element. One to three bytes left at the end print `short record`. Empty input prints
 -- nothing.

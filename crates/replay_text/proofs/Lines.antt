@@ -1,11 +1,12 @@
 -- What is printed for the first records of a file, and for two stretches of records one after the other. Assumes nothing.
 use mathlib.Core.Path.{◌≡◌, refl, sym, ap, ap₂, ◌∙◌}
-use mathlib.Core.List.{List, ◌++◌, append_assoc, append-nil}
+use mathlib.Core.List.{List, [], ◌++◌, append_assoc, append-nil}
 use Prim.Native.Nat.{ℕ, zero, suc, ◌+◌, ◌*◌, ◌%◌, ◌^◌, ◌<◌, ◌≤◌}
 use native.Mathlib.Nat.{add_assoc, add-suc, add-zero}
 use native.Mathlib.Omega.{arith}
-use lib.ListN.{length, take, drop, length-append, length-drop}
-use lib.Seq.{take-append-le, take_all, drop-append-le, drop-append-add}
+use lib.ListN.{length, take, drop, get_or, length-append, length-drop}
+use lib.Seq.{take-append-le, take_all, drop-append-le, drop-append-add, drop-drop}
+use Rattle.std.specs.Simd.{first_chunks}
 use Rattle.text.specs.Text.{decimal}
 use Rattle.text.proofs.Laws.{decimal_length}
 use Rattle.records.specs.Records.{record_bytes}
@@ -18,6 +19,14 @@ ten n h = decimal_length 9 20 n (omega arith)
 
 pub twenty : (n : ℕ) → n < 2 ^ 64 → length (decimal n) ≤ 20
 twenty n h = decimal_length 19 20 n (omega arith)
+
+-- a whole record of a file, of those that it was cut into
+pub record_is : (count i : ℕ) (file : List ℕ) → i < count → get_or (first_chunks record_bytes count file) i [] ≡ record_at file i
+record_is zero i file h = absurd (omega arith)
+record_is (suc count) zero file h = refl
+record_is (suc count) (suc i) file h =
+    let next : record_bytes * suc i ≡ record_bytes + record_bytes * i = omega arith in
+    record_is count i (drop record_bytes file) (omega arith) ∙ ap (take record_bytes) (drop-drop (record_bytes * i) record_bytes file ∙ ap (λ (n : ℕ). drop n file) (sym next))
 
 -- a record of the first stretch, and of the second
 module _ (xs ys : List ℕ) where

@@ -1,28 +1,32 @@
 -- Texts put one after another, and the digits of a number: the kit's fewest digits are the definition's. Assumes nothing.
 use mathlib.Core.Path.{◌≡◌, refl, sym, ap, ap₂, subst, ◌∙◌}
 use mathlib.Core.Bool.{Bool, true, false}
-use mathlib.Core.List.{List, [], ◌∷◌, ◌++◌, append_assoc, append-nil}
+use mathlib.Core.List.{List, [], ◌∷◌, ◌++◌, append_assoc}
 use Prim.Native.Nat.{ℕ, zero, suc, ◌+◌, ◌-◌, ◌*◌, ◌/◌, ◌%◌, ◌^◌, ◌<◌, ◌≤◌}
 use lib.Pow.{pow-add}
 use native.Mathlib.Nat.{mul-le-mul_left, not-suc-le-zero, le_of_suc-le-suc, mod-lt, mod-eq_of_lt, div-lt_iff_lt-mul, le-div_iff_mul-le}
-use native.Mathlib.Numerals.{add-one}
 use native.Mathlib.Omega.{arith}
 use borrow.Author.Tests.{lt-ltb, le-ltb}
-use lib.ListN.{length, take, drop, set, length-append, length-set}
-use lib.Seq.{length-take-le, take-suc-set, drop-set-lt, drop-drop}
+use lib.ListN.{length, take, drop, length-append, length-drop}
+use lib.Seq.{length-take-le, drop-drop}
 use Rattle.std.proofs.Common.{if◌then◌else◌}
+use Rattle.std.proofs.lemmas.Slice.{take-put_mid, drop-put_mid}
+use borrow.Rule.Slice.PartMut.{put_mid, same_len_mid}
 use Rattle.laws.specs.Choice.{◌<?◌}
 use Rattle.io.specs.Digits.{hex_digit_ascii, last_digits, IsDigitCount}
-use Rattle.text.specs.Text.{digit, decimal_in, decimal, refused_line, Put}
+use Rattle.text.specs.Text.{digit, decimal_in, decimal, refused_line, Put, Pushed}
+use Rattle.text.specs.declared.Text.{Text}
 
--- no text, one byte, and a text after a text
-pub put_none : (xs : List ℕ) (at : ℕ) → Put [] xs at xs at
-put_none xs at = record { says = sym (append-nil (take at xs)); ends = omega arith; behind = refl; keeps = refl }
+-- bytes that were copied over a part of a buffer, and a text after a text
+pub put_bytes : (xs ys bytes : List ℕ) (at n : ℕ) → ys ≡ bytes → n ≡ length bytes → at + n ≤ length xs → Put bytes xs at (put_mid at n xs ys) (at + length bytes)
+put_bytes xs ys bytes at n e long fit = record {
+  says = rw e (take-put_mid at n xs bytes (at + length bytes) refl (omega arith));
+  ends = refl;
+  behind = rw e (drop-put_mid at n xs bytes (at + length bytes) (omega arith) (omega arith) (omega arith));
+  keeps = same_len_mid at n xs ys (omega (arith, ap length e, length-take-le n (drop at xs) (omega (arith, length-drop at xs))));
+}
 
-pub put_one : (xs : List ℕ) (at b : ℕ) → at < length xs → Put (b ∷ []) xs at (set xs at b) (at + 1)
-put_one xs at b h = record { says = rw add-one (take-suc-set xs at b h); ends = refl; behind = drop-set-lt (at + 1) xs at b (omega arith); keeps = length-set xs at b }
-
-pub put_put : {t u xs ys zs : List ℕ} {a b c : ℕ} → Put t xs a ys b → Put u ys b zs c → Put (t ++ u) xs a zs c
+put_put : {t u xs ys zs : List ℕ} {a b c : ℕ} → Put t xs a ys b → Put u ys b zs c → Put (t ++ u) xs a zs c
 put_put {t} {u} {xs} {ys} {zs} {a} {b} {c} p q = record {
   says = q.says ∙ ap (λ (l : List ℕ). l ++ u) p.says ∙ append_assoc (take a xs) t u;
   ends = simp length-append (omega arith);
@@ -35,15 +39,19 @@ put_put {t} {u} {xs} {ys} {zs} {a} {b} {c} p q = record {
         let n : c ≡ b + (c - b) = omega arith in
         ap (λ (m : ℕ). drop m ys) n ∙ sym (drop-drop (c - b) b ys) ∙ ap (drop (c - b)) e ∙ drop-drop (c - b) b xs ∙ ap (λ (m : ℕ). drop m xs) (sym n)
 
-pub put_same : {t u xs ys : List ℕ} {a b : ℕ} → t ≡ u → Put u xs a ys b → Put t xs a ys b
-put_same {t} {u} {xs} {ys} {a} {b} e = subst (λ (t : List ℕ). Put t xs a ys b) (sym e)
+pub pushed_more : {t u : List ℕ} {a b c : Text} → Pushed t a b → Pushed u b c → Pushed (t ++ u) a c
+pushed_more p q = record { put = put_put p.put q.put; same_buffer = q.same_buffer ∙ p.same_buffer }
 
-pub put_ends : {t xs ys : List ℕ} {a b : ℕ} → Put t xs a ys b → (n : ℕ) → length t ≤ n → b ≤ a + n
-put_ends p n h = omega arith
+pub pushed_same : {t u : List ℕ} {a b : Text} → t ≡ u → Pushed u a b → Pushed t a b
+pushed_same {t} {u} {a} {b} e = subst (λ (t : List ℕ). Pushed t a b) (sym e)
 
--- so many bytes at the start of a buffer
-pub counts : (n : ℕ) (xs : List ℕ) → n ≤ length xs → (n ≤ length xs) × (n ≡ length (take n xs))
-counts n xs h = (h, sym (length-take-le n xs h))
+-- from an empty text on, by what its buffer held and holds
+pub pushed_put : {t xs ys : List ℕ} {n : ℕ} {a b : Text} → Pushed t a b → a.out.now ≡ xs → a.len ≡ 0 → b.out.now ≡ ys → n ≡ b.len → Put t xs 0 ys n
+pushed_put p first none last long = rw (← first, ← none, ← last, long) p.put
+
+-- how far it reaches
+pub pushed_ends : {t : List ℕ} {a b : Text} → Pushed t a b → (n : ℕ) → length t ≤ n → b.len ≤ a.len + n
+pushed_ends p n h = omega (arith, p.put)
 
 -- a digit is the kit's
 digit_is : (d : ℕ) → d < 10 → hex_digit_ascii d ≡ digit d

@@ -1,6 +1,7 @@
 -- A text put into a buffer, a number as text, and the words that the programs print, in ASCII. Assumes nothing.
-use Rattle.std.specs.Prelude.{ℕ, zero, suc, ◌+◌, ◌/◌, ◌%◌, ◌≡◌, List, [], ◌∷◌, ◌++◌, length, take, drop, if◌then◌else◌}
+use Rattle.std.specs.Prelude.{ℕ, zero, suc, ◌+◌, ◌/◌, ◌%◌, ◌≤◌, ◌≡◌, List, [], ◌∷◌, ◌++◌, length, take, drop, if◌then◌else◌}
 use Rattle.laws.specs.Choice.{◌<?◌}
+use Rattle.text.specs.declared.Text.{Text}
 
 abbrev pub digit : ℕ → ℕ
 digit n = 48 + n
@@ -33,3 +34,12 @@ pub record Put (text : List ℕ) (before : List ℕ) (at : ℕ) (after : List �
   pub ends : end ≡ at + length text
   pub behind : drop end after ≡ drop end before
   pub keeps : length after ≡ length before
+
+-- so many bytes more fit behind a text
+abbrev pub HasRoom : (n : ℕ) → Text → Type 0
+HasRoom n text = text.len + n ≤ length text.out.now
+
+-- bytes were pushed behind a text, in the same buffer
+pub record Pushed (bytes : List ℕ) (old new : Text) : Type 0 where
+  pub put : Put bytes old.out.now old.len new.out.now new.len
+  pub same_buffer : new.out.ghost_name ≡ old.out.ghost_name

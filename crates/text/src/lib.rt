@@ -1,67 +1,88 @@
-// Bytes put into a buffer: a text, a number in decimal, and the line of a refusal. Each function puts into out at a place, and answers the place after it.
+// A text in a buffer that is lent, and what is pushed behind it: bytes, numbers in decimal, and the line of a refusal.
 #![tactic(auto)]
 
-ghost use Rattle.std.specs.Prelude.{[], ◌∷◌, ◌+◌, ◌<◌, ◌≤◌, length};
-ghost use Rattle.text.specs.Text.{decimal, space, refused_line, Put};
+ghost use Rattle.std.specs.Prelude.{◌≡◌, [], ◌∷◌, ◌+◌, ◌<◌, ◌≤◌, length};
+ghost use Rattle.text.specs.Text.{decimal, space, refused_line, HasRoom, Pushed};
 
-pub fn put(out: &mut [u8], at: usize, b: u8) -> usize
-    requires { at + 1 ≤ length out.old }
-    ensures { Put (b ∷ []) out.old at out.new result }
-{
-    out[at] = b;
-    at + 1
+// The first bytes of a buffer, so many of them.
+#[derive(Drop)]
+pub struct Text<'a> {
+    out: &'a mut [u8],
+    len: usize,
 }
 
-pub fn put_text(out: &mut [u8], at: usize, text: &[u8]) -> usize
-    requires { at + length text.now ≤ length out.old }
-    ensures { Put text.now out.old at out.new result }
-{
-    let mut i = 0;
-    while i < text.len() {
-        out[at + i] = text[i];
-        i += 1;
+impl<'a> Text<'a> {
+    pub fn new(out: &'a mut [u8]) -> Text<'a>
+        ensures same_buffer { result.out.ghost_name ≡ out.entry.ghost_name }
+        ensures bytes { result.out.now ≡ out.old }
+        ensures empty { result.len ≡ 0 }
+    {
+        Text { out, len: 0 }
     }
-    at + i
-}
 
-fn put_two_digits(out: &mut [u8], at: usize, n: u64) -> usize
-    requires { (10 ≤ n) × (n < 100) × (at + length (decimal n) ≤ length out.old) }
-    ensures { Put (decimal n) out.old at out.new result }
-{
-    let after_tens = put(out, at, b'0' + (n / 10) as u8);
-    put(out, after_tens, b'0' + (n % 10) as u8)
-}
-
-// Most numbers have one digit or two, and go a short way.
-pub fn put_decimal(out: &mut [u8], at: usize, n: u64) -> usize
-    requires { at + length (decimal n) ≤ length out.old }
-    ensures { Put (decimal n) out.old at out.new result }
-{
-    if n < 10 {
-        return put(out, at, b'0' + n as u8);
+    pub fn len(&self) -> usize
+        ensures { result ≡ self.now.len }
+    {
+        self.len
     }
-    if n < 100 {
-        return put_two_digits(out, at, n);
+
+    pub fn push(&mut self, byte: u8)
+        requires { HasRoom 1 self.old }
+        ensures { Pushed (byte ∷ []) self.old self.new }
+    {
+        self.out[self.len] = byte;
+        self.len += 1;
     }
-    let mut digits = [0u8; 20];
-    let count = io::decimal(n, &mut digits);
-    put_text(out, at, &digits[..count])
-}
 
-// A space, then the number.
-pub fn put_next(out: &mut [u8], at: usize, n: u32) -> usize
-    requires { at + (1 + length (decimal n)) ≤ length out.old }
-    ensures { Put (space ∷ decimal n) out.old at out.new result }
-{
-    let after_space = put(out, at, b' ');
-    put_decimal(out, after_space, n as u64)
-}
+    pub fn push_text(&mut self, text: &[u8])
+        requires { HasRoom (length text.now) self.old }
+        ensures { Pushed text.now self.old self.new }
+    {
+        let end = self.len + text.len();
+        self.out[self.len..end].copy_from_slice(text);
+        self.len = end;
+    }
 
-pub fn put_refused(out: &mut [u8], at: usize, number: u32) -> usize
-    requires { at + length (refused_line number) ≤ length out.old }
-    ensures { Put (refused_line number) out.old at out.new result }
-{
-    let after_text = put_text(out, at, b"refused ");
-    let after_number = put_decimal(out, after_text, number as u64);
-    put(out, after_number, b'\n')
+    // Most numbers have one digit or two, and go a short way.
+    pub fn push_decimal(&mut self, n: u64)
+        requires { HasRoom (length (decimal n)) self.old }
+        ensures { Pushed (decimal n) self.old self.new }
+    {
+        if n < 10 {
+            return self.push(b'0' + n as u8);
+        }
+        if n < 100 {
+            return self.push_two_digits(n);
+        }
+        let mut digits = [0u8; 20];
+        let count = io::decimal(n, &mut digits);
+        self.push_text(&digits[..count]);
+    }
+
+    fn push_two_digits(&mut self, n: u64)
+        requires { (10 ≤ n) × (n < 100) × HasRoom (length (decimal n)) self.old }
+        ensures { Pushed (decimal n) self.old self.new }
+    {
+        self.push(b'0' + (n / 10) as u8);
+        self.push(b'0' + (n % 10) as u8);
+    }
+
+    // A space, then the number.
+    pub fn push_next(&mut self, n: u32)
+        requires { HasRoom (1 + length (decimal n)) self.old }
+        ensures { Pushed (space ∷ decimal n) self.old self.new }
+    {
+        self.push(b' ');
+        self.push_decimal(n as u64);
+    }
+
+    #[tactic(auto, using(crate::proofs::Laws::refused_length))]
+    pub fn push_refused(&mut self, number: u32)
+        requires { HasRoom (length (refused_line number)) self.old }
+        ensures { Pushed (refused_line number) self.old self.new }
+    {
+        self.push_text(b"refused ");
+        self.push_decimal(number as u64);
+        self.push(b'\n');
+    }
 }

@@ -5,7 +5,7 @@ use Rattle.answers.proofs.Shows.{tells}
 use Rattle.places.proofs.Limits.{second_decides, past_element}
 use Rattle.places.proofs.element_outside.Goals as goal
 
-pub returns : goal.returns
-returns c =
+pub returns-else-lane-ge-COUNT : goal.returns-else-lane-ge-COUNT
+returns-else-lane-ge-COUNT c =
     let in_warp : c.args.lane.0 < lanes = omega arith in
     tells _ _ (second_decides lanes _ in_warp (past_element c.args.f c.requires _))

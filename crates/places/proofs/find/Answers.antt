@@ -12,10 +12,10 @@ use Rattle.places.proofs.ByRule.{known_found}
 use Rattle.places.proofs.find.Goals as goal
 
 pub find_in-requires : goal.find_in-requires
-find_in-requires c = known_sane _ _ _ c.layout_of.ensures _ c.in-As.is
+find_in-requires c = known_sane _ _ _ c.layout_of.ensures _ c.in_ok-f.was
 
 pub find_in-requires-else-f : goal.find_in-requires-else-f
-find_in-requires-else-f c = known_sane _ _ _ c.layout_of.ensures _ c.in-As.is
+find_in-requires-else-f c = known_sane _ _ _ c.layout_of.ensures _ c.in_ok-f.was
 
 pub returns-then-f : goal.returns-then-f
 unfolding find_answer
@@ -23,8 +23,8 @@ returns-then-f c =
     let a = c.args in
     replies
     (reply_is c.find_in.ensures
-    ∙ ap (λ (t : Bool). answer (find_call_in c.in-As.f (turn t (a.row.0, a.column.0)))) (sym c.if-f.true)
-    ∙ known_found _ _ _ c.layout_of.ensures _ c.in-As.is _ _)
+    ∙ ap (λ (t : Bool). answer (find_call_in c.in_ok-f.f (turn t (a.row.0, a.column.0)))) (sym c.if-f.true)
+    ∙ known_found _ _ _ c.layout_of.ensures _ c.in_ok-f.was _ _)
 
 pub returns-else-f : goal.returns-else-f
 unfolding find_answer
@@ -32,5 +32,5 @@ returns-else-f c =
     let a = c.args in
     replies
     (reply_is c.find_in-else-f.ensures
-    ∙ ap (λ (t : Bool). answer (find_call_in c.in-As.f (turn t (a.row.0, a.column.0)))) (sym c.if-f.false)
-    ∙ known_found _ _ _ c.layout_of.ensures _ c.in-As.is _ _)
+    ∙ ap (λ (t : Bool). answer (find_call_in c.in_ok-f.f (turn t (a.row.0, a.column.0)))) (sym c.if-f.false)
+    ∙ known_found _ _ _ c.layout_of.ensures _ c.in_ok-f.was _ _)
