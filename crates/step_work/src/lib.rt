@@ -99,7 +99,7 @@ fn multiply(
 
 // The one-bit kinds, each by its spans and halves. With one word a lane the words lie in lines as they are.
 fn count(kind: Kind, line: Entry, mode: Mode, a: &[u32], b: &[u32], c: &[u32], d: &mut [u32])
-    requires arithmetic { Arithmetic kind.0 × Says (one_bit kind.0) × (mode.0 ≤ 1) × (line ≡ entry_of kind.0) }
+    requires arithmetic { Arithmetic kind.0 × Says (one_bit kind.0) × (line ≡ entry_of kind.0) }
     requires sized { Sized kind.0 (length a.now) (length b.now) (length c.now) (length d.old) }
     ensures { d.new ≡ stepped kind.0 0 mode.0 a.now b.now c.now }
 {

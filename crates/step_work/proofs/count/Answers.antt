@@ -1,5 +1,5 @@
 -- The kind's spans and halves are those of its counter, so its lengths are those asked for, and the words counted are the step's. Assumes nothing.
-use Rattle.std.proofs.Common.{◌≡◌, ℕ, ◌*◌, ◌/◌, ◌^◌, ◌<◌, ◌≤◌, List, length, get_or, sym, ap, ◌∙◌, arith}
+use Rattle.std.proofs.Common.{◌≡◌, ℕ, ◌*◌, ◌/◌, ◌^◌, ◌<◌, List, length, get_or, sym, ap, ◌∙◌, arith}
 use Rattle.answers.specs.Tests.{Says}
 use Rattle.kinds.specs.Kinds.{lanes, entry_of, one_bit, Arithmetic}
 use Rattle.kinds.specs.declared.Entry.{Entry}
@@ -11,15 +11,15 @@ use Rattle.step_work.proofs.Counted as counts
 use Rattle.step_work.proofs.count.Goals as goal
 
 -- of a kind's line: which of the three forms it has, by what the code tests
-module _ (k : ℕ) (line : Entry) (mode : ℕ) (ok : Arithmetic k × Says (one_bit k) × (mode ≤ 1) × (line ≡ entry_of k)) where
+module _ (k : ℕ) (line : Entry) (mode : ℕ) (ok : Arithmetic k × Says (one_bit k) × (line ≡ entry_of k)) where
   abbrev Form : (spans halves : ℕ) → Type 0
   Form spans halves = ((entry_of k).b ≡ spans) × ((entry_of k).m / 8 ≡ halves)
 
   rows_are : line.m ≡ (entry_of k).m
-  rows_are = ap (λ (e : Entry). e.m) ok.3
+  rows_are = ap (λ (e : Entry). e.m) ok.2
 
   words_are : line.b ≡ (entry_of k).b
-  words_are = ap (λ (e : Entry). e.b) ok.3
+  words_are = ap (λ (e : Entry). e.b) ok.2
 
   narrow : line.m ≡ 8 → Form 1 1
   narrow h = counts.narrow k ok.0 ok.1 (sym rows_are ∙ h)
