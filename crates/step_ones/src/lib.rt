@@ -63,6 +63,7 @@ impl<const SPANS: usize, const HALVES: usize> Counter<SPANS, HALVES> {
         }
     }
 
+    // The rows are taken by their numbers: what a loop over `chunks_exact_mut` stored, no proof learns.
     fn sums(self, rows: &[u32], pairs: &[u64; 32]) -> [u32; 128]
         requires { length rows.now ≡ HALVES * 8 * (SPANS * 4) }
         ensures { Summed SPANS HALVES self.entry.mode.0 rows.now pairs.now result }
@@ -113,7 +114,7 @@ impl<const SPANS: usize, const HALVES: usize> Counter<SPANS, HALVES> {
         (k % 4 / 2 * 8 + k / 16) * 8 + (k / 4 % 4 * 2 + k % 2)
     }
 
-    // Every word of D, from the ones by row and column.
+    // Every word of D, from the ones by row and column. C is read by number, since no proof learns what a loop over `iter_mut` and `zip` stored.
     fn put_cells(self, sums: &[u32; 128], c: &[u32], d: &mut [u32])
         requires few { (k : ℕ) → k < HALVES * 64 → slice_index sums.now k ≤ 256 }
         requires c_and_d { (length c.now ≡ lanes * (2 * HALVES)) × (length d.old ≡ lanes * (2 * HALVES)) }
