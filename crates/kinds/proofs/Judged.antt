@@ -12,8 +12,9 @@ use Rattle.answers.proofs.Shows.{goes_on, came_on}
 use Rattle.answers.proofs.Demand1.{reply_is}
 use Rattle.kinds.specs.Kinds.{Legal}
 use Rattle.kinds.specs.Refusals.{layout_refusals}
-use Rattle.kinds.specs.Workers.{told_layout, layout_call, Laid}
-use Rattle.kinds.specs.declared.Layout.{Layout}
+use Rattle.kinds.specs.Laid.{Laid}
+use Rattle.kinds.specs.Workers.{told_layout, layout_call}
+use Rattle.kinds.specs.Rule.{Layout}
 use Rattle.kinds.specs.declared.Known.{Known}
 use Rattle.kinds.specs.declared.Known.TheVariants.{As, Refused as Known-as-Refused}
 use Rattle.kinds.proofs.Table.{layout_at, sane}
