@@ -1,10 +1,9 @@
 -- The C interface: the word of a call is that of its judgement, and what is left is what the call leaves. Assumes nothing.
 use mathlib.Core.Path.{◌≡◌, refl, sym, ap, subst, ◌∙◌}
 use Prim.Native.Nat.{ℕ, ◌+◌, ◌*◌, ◌^◌}
-use Rattle.answers.specs.Refusals.{Answer, given, refusal, told, after}
+use Rattle.answers.specs.Refusals.{Answer, given, refusal, told, after, Verdict}
 use Rattle.answers.specs.Calls.{Call, judgement, giving}
 use Rattle.answers.specs.Promised.{Meets, Replies, code_of, Coded}
-use Rattle.answers.specs.declared.Verdict.{Verdict}
 use Rattle.answers.proofs.Shows.{to_first, from_first, first_gives}
 use Rattle.answers.proofs.Demand1.{verdict_is, leaves, reply_is}
 

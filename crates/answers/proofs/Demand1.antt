@@ -9,13 +9,12 @@ use lib.Dec.{T, T_not, eqb_refl}
 use Rattle.laws.specs.Choice.{◌=?◌}
 use Rattle.laws.proofs.Every.{left, right}
 use Rattle.answers.specs.Tests.{holds}
-use Rattle.answers.specs.Refusals.{Answer, given, refusal, told, after}
+use Rattle.std.specs.Prelude.{Ok, Err}
+use Rattle.answers.specs.Refusals.{Answer, given, refusal, told, after, Verdict}
 use Rattle.answers.specs.Calls.{Line, ◌then◌, first, Call, answer, judgement, left_by, Gives, NoneSays}
 use Rattle.answers.specs.Right.{Passes}
 use Rattle.answers.specs.Promised.{Meets, Replies, Coded}
 use Rattle.answers.specs.declared.Refusal.{Refusal}
-use Rattle.answers.specs.declared.Verdict.{Verdict}
-use Rattle.answers.specs.declared.Verdict.TheVariants.{Accepted, Refused}
 use Rattle.answers.proofs.Refusals.{one_verdict}
 use Rattle.answers.proofs.Words.{says, says_not}
 use Rattle.answers.proofs.Shows.{never, to_first, told_is, denied, deny, admitted, passing}
@@ -94,25 +93,25 @@ module _ {X : Type 0} {call : Call X} {old : X} {verdict : Verdict} {left : X} (
   verdict_refused_when n d = (λ e. (refused_by tt call.refusals n d).0 (sym verdict_is ∙ e), λ g. verdict_is ∙ (refused_by tt call.refusals n d).1 g)
 
   -- and accepted exactly when none says so.
-  pub accepted_when : (verdict ≡ Accepted) ↔ NoneSays call.refusals
+  pub accepted_when : (verdict ≡ (Ok tt)) ↔ NoneSays call.refusals
   accepted_when = (
     λ e. (given_by tt call.refusals).0 (sym verdict_is ∙ ap told e),
-    λ g. one_verdict verdict Accepted (given tt) (verdict_is ∙ (given_by tt call.refusals).1 g) refl,
+    λ g. one_verdict verdict (Ok tt) (given tt) (verdict_is ∙ (given_by tt call.refusals).1 g) refl,
   )
 
   -- In other words: exactly when every line is passed.
-  pub accepted_passing : (verdict ≡ Accepted) ↔ Passes call.refusals
+  pub accepted_passing : (verdict ≡ (Ok tt)) ↔ Passes call.refusals
   accepted_passing = (
     admitted (record { verdict_right = m.verdict_right }),
-    λ p. one_verdict verdict Accepted (given tt) (verdict_is ∙ passing call.refusals tt p) refl,
+    λ p. one_verdict verdict (Ok tt) (given tt) (verdict_is ∙ passing call.refusals tt p) refl,
   )
 
   -- A refused one leaves what was there,
-  pub refused_leaves : {f : Refusal} → verdict ≡ Refused f → left ≡ old
+  pub refused_leaves : {f : Refusal} → verdict ≡ Err f → left ≡ old
   refused_leaves e = m.left_is ∙ ap (λ (v : Verdict). after (told v) call.gives old) e
 
   -- and an accepted one leaves what the definitions make.
-  pub accepted_leaves : verdict ≡ Accepted → left ≡ call.gives
+  pub accepted_leaves : verdict ≡ (Ok tt) → left ≡ call.gives
   accepted_leaves e = m.left_is ∙ ap (λ (v : Verdict). after (told v) call.gives old) e
 
 module _ {X : Type 0} {call : Call X} where

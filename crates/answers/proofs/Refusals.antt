@@ -5,11 +5,10 @@ use Prim.Native.Nat.{ℕ, ◌<◌, ◌≤◌}
 use native.Mathlib.Omega.{arith}
 use lib.ListN.{get_or}
 use Rattle.laws.proofs.Unique.{one_answer}
-use Rattle.answers.specs.Refusals.{Answer, given, refusal, number_of, detail_of, told}
+use Rattle.std.specs.Prelude.{Ok, Err}
+use Rattle.answers.specs.Refusals.{Answer, given, refusal, number_of, detail_of, told, Verdict}
 use Rattle.answers.specs.declared.Refusal.{Refusal}
 use Rattle.answers.specs.declared.Refusal.TheVariants.{UnknownKind, UnknownRole, NotArithmetic, BadSelectors, WrongLength, Outside, TooWide, BadScale, RunFull, BadRun, UnusedNotZero, ScaleNan}
-use Rattle.answers.specs.declared.Verdict.{Verdict}
-use Rattle.answers.specs.declared.Verdict.TheVariants.{Accepted, Refused}
 
 -- no two of the enum have the same; none has 0
 pub refusal_of : ℕ → ℕ → Refusal
@@ -47,13 +46,13 @@ number_range UnusedNotZero = (omega arith, omega arith)
 number_range (ScaleNan i) = (omega arith, omega arith)
 
 verdict_of : Answer (Unit {0}) → Verdict
-verdict_of (given x) = Accepted
-verdict_of (refusal n d) = Refused (refusal_of n d)
+verdict_of (given x) = (Ok tt)
+verdict_of (refusal n d) = Err (refusal_of n d)
 
 verdict_back : (a : Verdict) → verdict_of (told a) ≡ a
 unfolding verdict_of
-verdict_back Accepted = refl
-verdict_back (Refused f) = ap Refused (refusal_back f)
+verdict_back (Ok tt) = refl
+verdict_back (Err f) = ap Err (refusal_back f)
 
 pub one_verdict : (a b : Verdict) (q : Answer (Unit {0})) → told a ≡ q → told b ≡ q → a ≡ b
 one_verdict = one_answer told verdict_of verdict_back

@@ -7,14 +7,13 @@ use Prim.Native.Nat.{ℕ}
 use native.Mathlib.Omega.{arith}
 use borrow.Author.Tests.{ltb-true, ltb-false, lt-ltb, le-ltb, leb-true, leb-false, le-leb, lt-leb, eqb-true, eqb-false, eq-eqb, ne_eqb, not-true, not-false}
 use Rattle.laws.specs.Choice.{◌=?◌}
-use Rattle.answers.specs.Refusals.{Answer, given, refusal, number_of, detail_of, told, after}
+use Rattle.std.specs.Prelude.{Ok, Err}
+use Rattle.answers.specs.Refusals.{Answer, given, refusal, number_of, detail_of, told, after, Verdict}
 use Rattle.answers.specs.Tests.{Test, over, under, reaches, is, differs, either, both, unless, somewhere, Says, holds, first_of}
 use Rattle.answers.specs.Calls.{Line, ◌then◌, first, Call, answer}
 use Rattle.answers.specs.Right.{If, Denies, choose, Right, Refuses, Accepts, Given, Passes, Told}
 use Rattle.answers.specs.Promised.{Meets, Replies, Judges, Tells}
 use Rattle.answers.specs.declared.Refusal.{Refusal}
-use Rattle.answers.specs.declared.Verdict.{Verdict}
-use Rattle.answers.specs.declared.Verdict.TheVariants.{Accepted, Refused}
 use Rattle.answers.proofs.Words.{says, first_before, first_none}
 
 or_false : (s : Bool) {t : Bool} → (s || t) ≡ false → (s ≡ false) × (t ≡ false)
@@ -195,8 +194,8 @@ passed [] r = tt
 passed (l ∷ ls) r = (denied l.test (shows false l.test r.0), passed ls r.1)
 
 given_told : (v : Verdict) → Given (told v) tt
-given_told Accepted = refl
-given_told (Refused f) = tt
+given_told (Ok tt) = refl
+given_told (Err f) = tt
 
 -- a right verdict is the first refusal that applies, as an equation
 pub told_is : (ls : List Line) (v : Verdict) → Right ls (told v) → told v ≡ first ls tt
@@ -206,14 +205,14 @@ module _ {refusals : List Line} {verdict : Verdict} where
   pub judge_is : Judges refusals verdict → told verdict ≡ first refusals tt
   judge_is j = told_is refusals verdict j.verdict_right
 
-  pub admitted : Judges refusals verdict → verdict ≡ Accepted → Passes refusals
+  pub admitted : Judges refusals verdict → verdict ≡ (Ok tt) → Passes refusals
   admitted j e = passed refusals (subst (λ (v : Verdict). Right refusals (told v)) e j.verdict_right)
 
 -- A line whose test another function made: it held, and refuses, or it failed, and the rest decides.
 module _ {l : Line} {ls : List Line} where
   pub stops : {f : Refusal} → Shows true l.test → l.number ≡ number_of f → l.detail ≡ detail_of f
-      → Judges (l ∷ ls) (Refused f)
-  stops {f} h n d = record { verdict_right = from_first (l ∷ ls) tt (told (Refused f)) (rw (shows true l.test h, n, d) refl) }
+      → Judges (l ∷ ls) (Err f)
+  stops {f} h n d = record { verdict_right = from_first (l ∷ ls) (tt {0}) (told {X = Unit {0}} (Err f)) (rw (shows true l.test h, n, d) refl) }
 
   pub skips : {verdict : Verdict} → Shows false l.test → Judges ls verdict → Judges (l ∷ ls) verdict
   skips {verdict} h j = record { verdict_right = from_first (l ∷ ls) tt (told verdict) (rw (shows false l.test h) (judge_is j)) }
@@ -270,20 +269,20 @@ hidden t d = if_from true t (λ e. one_of e (deny t d))
 
 -- Two judges, one after the other: the first one's refusal stands, and where it accepts, the second one decides. Where there are no lines more, it is
 -- accepted.
-pub accepts : {verdict : Verdict} → verdict ≡ Accepted → Judges [] verdict
+pub accepts : {verdict : Verdict} → verdict ≡ (Ok tt) → Judges [] verdict
 accepts {verdict} e = record { verdict_right = from_first [] tt (told verdict) (ap told e) }
 
 module _ {ls : List Line} {verdict : Verdict} where
-  pub stands : {f : Refusal} (rest : List Line) → Judges ls verdict → verdict ≡ Refused f
+  pub stands : {f : Refusal} (rest : List Line) → Judges ls verdict → verdict ≡ Err f
       → Judges (ls then rest) verdict
   stands {f} rest j e = record {
     verdict_right = from_first (ls then rest) tt (told verdict) (ap told e ∙ handed_on ls rest tt tt (number_of f) (detail_of f) (sym (ap told e) ∙ judge_is j));
   }
 
-  pub not_passed : {f : Refusal} → Judges ls verdict → verdict ≡ Refused f → ¬ Passes ls
+  pub not_passed : {f : Refusal} → Judges ls verdict → verdict ≡ Err f → ¬ Passes ls
   not_passed j e p = never (sym (ap told e) ∙ judge_is j ∙ passing ls tt p)
 
-  module _ (j : Judges ls verdict) (e : verdict ≡ Accepted) where
+  module _ (j : Judges ls verdict) (e : verdict ≡ (Ok tt)) where
     pub continues : {rest : List Line} {last : Verdict} → Judges rest last → Judges (ls then rest) last
     continues {rest} {last} k = record { verdict_right = from_first (ls then rest) tt (told last) (judge_is k ∙ sym (goes_on ls rest tt (admitted j e))) }
 
@@ -294,11 +293,11 @@ module _ {ls : List Line} {verdict : Verdict} where
 
 -- A call that was judged first: where the judge admits, the work is done, and where it rejects, nothing is.
 module _ {X : Type 0} {call : Call X} {old : X} {verdict : Verdict} where
-  pub worked : {left : X} → Judges call.refusals verdict → verdict ≡ Accepted → left ≡ call.gives
+  pub worked : {left : X} → Judges call.refusals verdict → verdict ≡ (Ok tt) → left ≡ call.gives
       → Meets call old verdict left
   worked j e l = record { verdict_right = j.verdict_right; left_is = l ∙ sym (ap (λ (v : Verdict). after (told v) call.gives old) e) }
 
-  pub kept : {f : Refusal} → Judges call.refusals verdict → verdict ≡ Refused f → Meets call old verdict old
+  pub kept : {f : Refusal} → Judges call.refusals verdict → verdict ≡ Err f → Meets call old verdict old
   kept j e = record { verdict_right = j.verdict_right; left_is = sym (ap (λ (v : Verdict). after (told v) call.gives old) e) }
 
   -- a call whose judgement and whose leavings are known as equations

@@ -1,10 +1,9 @@
 -- What each function of the bench promises, by what it hands back. Assumes nothing.
 use Rattle.std.specs.Prelude.{ℕ, ◌+◌, ◌*◌, ◌^◌, ◌≡◌, List, Bool}
-use Rattle.answers.specs.Refusals.{Answer, given, refusal, told, after}
+use Rattle.answers.specs.Refusals.{Answer, given, refusal, told, after, Verdict}
 use Rattle.answers.specs.Tests.{Test}
 use Rattle.answers.specs.Calls.{Line, Call, judgement, left_by}
 use Rattle.answers.specs.Right.{Right, Given, Told}
-use Rattle.answers.specs.declared.Verdict.{Verdict}
 
 -- A call with a verdict: the verdict is right, and what is left, where old stood, is what the call gives, or old where it refuses.
 pub record Meets {X : Type 0} (call : Call X) (old : X) (verdict : Verdict) (left : X) : Type 0 where

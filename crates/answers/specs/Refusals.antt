@@ -1,9 +1,7 @@
 -- Document 01, 'Refusal numbers', and of 11 and 12 document 02, K2 and K4: the numbers, the details, and what a verdict tells. Assumes nothing.
-use Rattle.std.specs.Prelude.{ℕ}
+use Rattle.std.specs.Prelude.{ℕ, Result, Ok, Err}
 use Rattle.answers.specs.declared.Refusal.{Refusal}
 use Rattle.answers.specs.declared.Refusal.TheVariants.{UnknownKind, UnknownRole, NotArithmetic, BadSelectors, WrongLength, Outside, TooWide, BadScale, RunFull, BadRun, UnusedNotZero, ScaleNan}
-use Rattle.answers.specs.declared.Verdict.{Verdict}
-use Rattle.answers.specs.declared.Verdict.TheVariants.{Accepted, Refused}
 
 -- What a call answers, in this paper's numbers: what it gives, or a refusal, which is its number and detail.
 pub data Answer (X : Type 0) : Type 0 where
@@ -41,10 +39,14 @@ detail_of (ScaleNan index) = index
 abbrev pub refused : {X : Type 0} → Refusal → Answer X
 refused f = refusal (number_of f) (detail_of f)
 
--- what each case of a verdict means
-abbrev pub told : Verdict → Answer (Unit {0})
-told Accepted = given tt
-told (Refused f) = refused f
+-- what each case of a result means
+abbrev pub told : {X : Type 0} → Result X Refusal → Answer X
+told (Ok x) = given x
+told (Err f) = refused f
+
+-- the result of a call that gives nothing back but what it writes
+abbrev pub Verdict : Type 0
+Verdict = Result (Unit {0}) Refusal
 
 -- It writes nothing: what a buffer holds on return, from what an accepted call makes of it and what it held before.
 abbrev pub after : {X B : Type 0} → Answer X → (new old : B) → B

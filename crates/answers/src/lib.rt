@@ -1,11 +1,14 @@
-// What every call answers: a refusal, which is a number and a detail, or a verdict.
+// What every call answers where it does not do what it was asked: a refusal, which is a number and a detail. A call is a `Result` with it.
 #![tactic(auto)]
 
 ghost use Rattle.std.specs.Prelude.{◌≡◌};
 ghost use Rattle.answers.specs.Refusals.{number_of, detail_of};
 
+use std::error::Error;
+use std::fmt;
+
 // The refusals of the whole bench, in the order of their numbers, with the detail where one has it.
-#[derive(Clone, Copy)]
+#[derive(Clone, Copy, Debug, PartialEq, Eq)]
 pub enum Refusal {
     UnknownKind,
     UnknownRole,
@@ -63,9 +66,11 @@ impl Refusal {
     }
 }
 
-// The answer of a call that gives nothing back but what it writes.
-#[derive(Clone, Copy)]
-pub enum Verdict {
-    Accepted,
-    Refused(Refusal),
+// As the programs print it: its number and its detail.
+impl fmt::Display for Refusal {
+    fn fmt<W: fmt::Write>(&self, f: &mut fmt::Formatter<W>) -> fmt::Result {
+        write!(f, "refused {} {}", self.number(), self.detail())
+    }
 }
+
+impl Error for Refusal {}

@@ -2,7 +2,8 @@
 use mathlib.Core.Path.{◌≡◌, sym, ap, subst, ◌∙◌}
 use mathlib.Core.List.{List}
 use Prim.Native.Nat.{ℕ}
-use Rattle.answers.specs.Refusals.{given, refused, number_of, detail_of}
+use Rattle.std.specs.Prelude.{Result, Ok, Err}
+use Rattle.answers.specs.Refusals.{given, refused, number_of, detail_of, told}
 use Rattle.answers.specs.Calls.{Line, first, answer, ◌then◌}
 use Rattle.answers.specs.Right.{Passes}
 use Rattle.answers.specs.Promised.{Replies}
@@ -12,11 +13,9 @@ use Rattle.answers.proofs.Shows.{goes_on, came_on}
 use Rattle.answers.proofs.Demand1.{reply_is}
 use Rattle.kinds.specs.Kinds.{Legal}
 use Rattle.kinds.specs.Refusals.{layout_refusals}
-use Rattle.kinds.specs.Laid.{Laid}
-use Rattle.kinds.specs.Workers.{told_layout, layout_call}
 use Rattle.kinds.specs.Rule.{Layout}
-use Rattle.kinds.specs.declared.Known.{Known}
-use Rattle.kinds.specs.declared.Known.TheVariants.{As, Refused as Known-as-Refused}
+use Rattle.kinds.specs.Laid.{Laid}
+use Rattle.kinds.specs.Workers.{layout_call}
 use Rattle.kinds.proofs.Table.{layout_at, sane}
 
 module _ (k r : ℕ) where
@@ -34,10 +33,10 @@ module _ (k r : ℕ) where
     judged_given e = let a = came_on (layout_refusals k r) rest x e in (legal a.0, a.1)
 
 -- from the layout that a call was handed to the lines behind it
-module _ (k r : ℕ) (a : Known) (told : Replies (layout_call k r) (told_layout a)) where
-  module _ (f : Layout) (e : a ≡ As f) where
+module _ (k r : ℕ) (a : Result Layout Refusal) (reply : Replies (layout_call k r) (told a)) where
+  module _ (f : Layout) (e : a ≡ Ok f) where
     layout_given : given f ≡ answer (layout_call k r)
-    layout_given = sym (ap told_layout e) ∙ reply_is told
+    layout_given = sym (ap told e) ∙ reply_is reply
 
     pub known_legal : Legal k r × (f ≡ layout_at k r)
     known_legal = (
@@ -53,5 +52,5 @@ module _ (k r : ℕ) (a : Known) (told : Replies (layout_call k r) (told_layout 
     known_rest rest x = sym (judged_is k r rest x known_legal.0)
 
   -- and where it was refused, that refusal stands
-  pub handed_on : (x : Refusal) → a ≡ Known-as-Refused x → {X : Type 0} (rest : List Line) (y : X) → refused x ≡ first (layout_refusals k r then rest) y
-  handed_on x e rest y = shows.handed_on (layout_refusals k r) rest (layout_at k r) y (number_of x) (detail_of x) (sym (ap told_layout e) ∙ reply_is told)
+  pub handed_on : (x : Refusal) → a ≡ Err x → {X : Type 0} (rest : List Line) (y : X) → refused x ≡ first (layout_refusals k r then rest) y
+  handed_on x e rest y = shows.handed_on (layout_refusals k r) rest (layout_at k r) y (number_of x) (detail_of x) (sym (ap told e) ∙ reply_is reply)

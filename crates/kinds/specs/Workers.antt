@@ -1,7 +1,6 @@
 -- What the workers answer, and what they ask for. Assumes nothing.
 use Rattle.std.specs.Prelude.{ℕ, zero, suc, ◌*◌, ◌/◌, ◌<◌, ◌≤◌, ◌≡◌, Bool, ◌&&◌, List, [], ◌∷◌, get_or, if◌then◌else◌}
 use Rattle.laws.specs.Choice.{◌=?◌, NoneBelow}
-use Rattle.answers.specs.Refusals.{Answer, given, refused}
 use Rattle.answers.specs.Calls.{Call}
 use Rattle.kinds.specs.Kinds.{kinds, table, role_a, role_b, role_c, word_bits, entry_of, role_of}
 use Rattle.kinds.specs.Rule.{Layout, side_of, layout_of}
@@ -9,8 +8,6 @@ use Rattle.kinds.specs.Refusals.{layout_refusals}
 use Rattle.kinds.specs.declared.Line.{Line}
 use Rattle.kinds.specs.declared.Sided.{Sided}
 use Rattle.kinds.specs.declared.Layouts.{Layouts}
-use Rattle.kinds.specs.declared.Known.{Known}
-use Rattle.kinds.specs.declared.Known.TheVariants.{As, Refused as Known-as-Refused}
 
 -- where a line stands among some, by its m, its k and its element, or how many they are if it is none of them
 abbrev pub alike : Line → Line → Bool
@@ -28,10 +25,6 @@ pub record LineAt (n : ℕ) (l : Sided) : Type 0 where
   pub side_is : l.1 ≡ side_of l.0.3
 
 -- the layout of a kind and a role, and the layouts of a kind's A, B and C
-abbrev pub told_layout : Known → Answer Layout
-told_layout (As f) = given f
-told_layout (Known-as-Refused x) = refused x
-
 abbrev pub layout_call : (kind role : ℕ) → Call Layout
 layout_call k r = record { refusals = layout_refusals k r; gives = layout_of (entry_of k) (role_of r) }
 

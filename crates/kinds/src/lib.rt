@@ -2,12 +2,13 @@
 #![tactic(auto)]
 
 ghost use Rattle.std.specs.Prelude.{◌≡◌, ◌<◌, ◌≤◌};
+ghost use Rattle.answers.specs.Refusals.{told};
 ghost use Rattle.answers.specs.Promised.{Replies};
 ghost use Rattle.kinds.specs.Kinds.{kinds, sum_bits, entry_of, role_of};
 ghost use Rattle.kinds.specs.Places.{word_within, lowest_bit};
 ghost use Rattle.kinds.specs.Rule.{spread, side_of, layout_of, rows_of, columns_of};
 ghost use Rattle.kinds.specs.Laid.{Laid};
-ghost use Rattle.kinds.specs.Workers.{LineAt, told_layout, layout_call, layouts_of};
+ghost use Rattle.kinds.specs.Workers.{LineAt, layout_call, layouts_of};
 
 use answers::Refusal;
 use std::marker::Model;
@@ -223,12 +224,6 @@ impl Model for Layout {
     ghost inverse = { λ a. record { bits = a.bits; words = a.words; side = a.side; halves = a.halves; spans = a.spans; turned = a.turned } };
 }
 
-#[derive(Clone, Copy)]
-pub enum Known {
-    As(Layout),
-    Refused(Refusal),
-}
-
 impl Layout {
     // The layout whose matrix has so many major and minor numbers.
     fn new(bits: u16, words: u16, side: u16, majors: u16, minors: u16, turned: bool) -> Layout
@@ -327,19 +322,19 @@ impl Layouts {
 }
 
 // The layout of a kind and a role, or refusal 1 or 2.
-pub fn layout_of(kind: Kind, role: Role) -> Known
-    ensures { Replies (layout_call kind.0 role.0) (told_layout result) }
+pub fn layout_of(kind: Kind, role: Role) -> Result<Layout, Refusal>
+    ensures { Replies (layout_call kind.0 role.0) (told result) }
 {
     let k = kind.0;
     let r = role.0;
     if k < 1 {
-        return Known::Refused(Refusal::UnknownKind);
+        return Err(Refusal::UnknownKind);
     }
     if Kind::COUNT < k {
-        return Known::Refused(Refusal::UnknownKind);
+        return Err(Refusal::UnknownKind);
     }
     if Role::C < r {
-        return Known::Refused(Refusal::UnknownRole);
+        return Err(Refusal::UnknownRole);
     }
-    Known::As(Layout::of(kind, role))
+    Ok(Layout::of(kind, role))
 }
