@@ -13,9 +13,8 @@ use Rattle.laws.specs.Lists.{blocks}
 use Rattle.laws.proofs.Fields.{field_lt, field_joined, joined_field, joined_ext, joined_lt}
 use Rattle.laws.proofs.Lists.{length_tab, get_or_tab, is_tab}
 use Rattle.kinds.specs.Kinds.{lanes}
-use Rattle.kinds.specs.Rule.{elements_of, majors, minors, rows_of, columns_of, turn, major, minor, place_in, holder_in, holder_of}
-use Rattle.kinds.specs.Workers.{Laid}
-use Rattle.kinds.specs.declared.Layout.{Layout}
+use Rattle.kinds.specs.Rule.{Layout, elements_of, majors, minors, rows_of, columns_of, turn, major, minor, place_in, holder_in, holder_of}
+use Rattle.kinds.specs.Laid.{Laid}
 use Rattle.kinds.proofs.Digits.{lane_back, element_back, major_back, minor_back, lane_lt, element_lt, major_lt, minor_lt}
 use Rattle.places.proofs.ByRule.{turn_turn}
 use Rattle.buffers.specs.Buffers.{element_at, index, entry_at, unpacked, word_at, packed, Fitting}

@@ -4,8 +4,7 @@ use Rattle.std.specs.Prelude.{ℕ, ◌+◌, ◌*◌, Bool, true, false, if◌the
 use Rattle.laws.specs.Choice.{◌<?◌, ◌=?◌}
 use Rattle.laws.specs.Toward.{Below, At}
 use Rattle.kinds.specs.Kinds.{word_bits}
-use Rattle.kinds.specs.Rule.{columns_of, place_in}
-use Rattle.kinds.specs.declared.Layout.{Layout}
+use Rattle.kinds.specs.Rule.{Layout, columns_of, place_in}
 use Rattle.buffers.specs.Buffers.{index}
 
 -- the elements of a stretch, the stretches side by side, and those of a lane
