@@ -6,8 +6,11 @@ ghost use Rattle.laws.specs.Fields.{field};
 ghost use Rattle.kinds.specs.Kinds.{lanes, entry_of};
 ghost use Rattle.kinds.specs.Places.{word_within};
 ghost use Rattle.kinds.specs.Rule.{columns_of};
+ghost use Rattle.kinds.specs.Laid.{Laid};
 ghost use Rattle.buffers.specs.Buffers.{words_needed};
 ghost use Rattle.buffers.specs.Stretches.{size_of, abreast_in, stretches_of, holding_of, place_at, step_of};
+
+pub mod walk;
 
 use kinds::{Element, Entry, Kind, Lane, Layout, Spot};
 
@@ -99,7 +102,8 @@ impl Stretch {
 
     // The stretches of a lane.
     pub fn count(f: &Layout) -> usize
-        ensures { result ≡ stretches_of f.now }
+        ensures is { result ≡ stretches_of f.now }
+        ensures laid { Laid f.now }
     {
         f.spans * f.halves * Stretch::abreast(f)
     }
