@@ -15,7 +15,7 @@ use Rattle.laws.proofs.Fields.{field_joined, field_field, field_wide, joined_ext
 use Rattle.laws.proofs.Toward.{same_or_not}
 use Rattle.kinds.specs.Places.{word_within, lowest_bit, whose_bit}
 use Rattle.kinds.specs.Rule.{turn}
-use Rattle.kinds.specs.Workers.{Width}
+use Rattle.kinds.specs.Laid.{Width}
 use Rattle.kinds.proofs.Spots.{per_pos, word_of, bit_of}
 use Rattle.buffers.specs.Buffers.{words_from, held_at, element_at}
 

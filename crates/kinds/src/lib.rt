@@ -212,12 +212,12 @@ pub struct Layout {
 }
 
 impl Model for Layout {
-    ghost use Rattle.kinds.specs.Rule.{Layout};
+    ghost use Rattle.kinds.specs.Rule.{Layout, shape};
     ghost use Rattle.kinds.specs.Laid.{Sane};
 
     ghost Value = { Layout };
 
-    ghost view = { λ a. record { bits = a.bits; words = a.words; side = a.side; halves = a.halves; spans = a.spans; turned = a.turned } };
+    ghost view = { λ a. shape a.bits a.words a.side a.halves a.spans a.turned };
 
     ghost invariant = { λ a. Sane a.bits a.words a.side a.halves a.spans };
 
