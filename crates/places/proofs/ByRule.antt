@@ -8,7 +8,7 @@ use Prim.Native.Nat.{ℕ, ◌<◌}
 use borrow.Author.Tests.{leb-false}
 use Rattle.laws.specs.Choice.{◌≤?◌}
 use Rattle.laws.proofs.Choice.{or_false, or_comm}
-use Rattle.answers.specs.Refusals.{given, refusal, refused}
+use Rattle.answers.specs.Refusals.{given, refusal, refused, told}
 use Rattle.answers.specs.Calls.{Line, ◌when◌, ◌then◌, first, answer}
 use Rattle.answers.specs.Promised.{Replies}
 use Rattle.answers.specs.declared.Refusal.{Refusal}
@@ -20,10 +20,9 @@ use Rattle.kinds.specs.Refusals.{unknown_kind, unknown_role}
 use Rattle.places.specs.PlaceCalls.{element_outside, entry_outside}
 use Rattle.places.specs.PlaceCalls.{find_call, place_answer, find_answer}
 use Rattle.kinds.specs.Laid.{Laid}
-use Rattle.kinds.specs.Workers.{told_layout, layout_call}
+use Rattle.kinds.specs.Workers.{layout_call}
 use Rattle.places.specs.Workers.{place_call_in, find_call_in}
-use Rattle.kinds.specs.declared.Known.{Known}
-use Rattle.kinds.specs.declared.Known.TheVariants.{As, Refused as Known-as-Refused}
+use Rattle.std.specs.Prelude.{Result, Ok, Err}
 use Rattle.kinds.proofs.Digits.{lane_back, element_back, major_back, minor_back, major_lt, minor_lt, lane_lt, element_lt}
 use Rattle.kinds.proofs.Table.{layout_at, bits_are, elements_are, majors_are, minors_are}
 use Rattle.kinds.proofs.Whole.{whole_at}
@@ -111,10 +110,10 @@ unfolding find_answer
 find_legal k r x y z e = let p = shows.passes (find_call k r x y).refusals (holder_of (layout_at k r) (x, y)) e in legal k r (search p)
 
 -- from the layout that a call was handed to the call's own answer
-module _ (k r : ℕ) (a : Known) (told : Replies (layout_call k r) (told_layout a)) where
-  module _ (f : Layout) (e : a ≡ As f) where
+module _ (k r : ℕ) (a : Result Layout Refusal) (reply : Replies (layout_call k r) (told a)) where
+  module _ (f : Layout) (e : a ≡ Ok f) where
     known : Legal k r × (f ≡ layout_at k r)
-    known = known_legal k r a told f e
+    known = known_legal k r a reply f e
 
     pub known_placed : (l i : ℕ) → answer (place_call_in f l i) ≡ place_answer k r l i
     known_placed l i = ap (λ (f : Layout). answer (place_call_in f l i)) known.1 ∙ place_is k r known.0 l i
@@ -122,13 +121,13 @@ module _ (k r : ℕ) (a : Known) (told : Replies (layout_call k r) (told_layout 
     pub known_found : (x y : ℕ) → answer (find_call_in f (turn f.turned (x, y))) ≡ find_answer k r x y
     known_found x y = ap (λ (f : Layout). answer (find_call_in f (turn f.turned (x, y)))) known.1 ∙ find_is k r known.0 x y
 
-  pub place_refused : (x : Refusal) → a ≡ Known-as-Refused x → (l i : ℕ) → refused x ≡ place_answer k r l i
+  pub place_refused : (x : Refusal) → a ≡ Err x → (l i : ℕ) → refused x ≡ place_answer k r l i
   unfolding place_answer
-  place_refused x e l i = handed_on k r a told x e (outside_element k r l i) (by_clause k r l i)
+  place_refused x e l i = handed_on k r a reply x e (outside_element k r l i) (by_clause k r l i)
 
-  pub find_refused : (x : Refusal) → a ≡ Known-as-Refused x → (row column : ℕ) → refused x ≡ find_answer k r row column
+  pub find_refused : (x : Refusal) → a ≡ Err x → (row column : ℕ) → refused x ≡ find_answer k r row column
   unfolding find_answer
-  find_refused x e row column = handed_on k r a told x e (outside_entry k r row column) (holder_of (layout_at k r) (row, column))
+  find_refused x e row column = handed_on k r a reply x e (outside_entry k r row column) (holder_of (layout_at k r) (row, column))
 
 -- a place that was worked out is the rule's
 pub placed : (f : Layout) (l i x y w b : ℕ) (t : Bool) → x ≡ major f.side f.halves l i → y ≡ minor f.side f.halves l i → f.turned ≡ t

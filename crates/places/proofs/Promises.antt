@@ -10,10 +10,10 @@ use Rattle.answers.specs.Promised.{Replies}
 use Rattle.answers.proofs.Refusals.{refusal_of, refusal_back}
 use Rattle.answers.proofs.Demand1.{no_second_reply}
 use Rattle.places.specs.PlaceCalls.{place_call, place_answer, find_call, find_answer, told_place, told_holder}
+use Rattle.std.specs.Prelude.{Result, Ok, Err}
+use Rattle.answers.specs.declared.Refusal.{Refusal}
 use Rattle.places.specs.declared.Placed.{Placed}
-use Rattle.places.specs.declared.Placed.TheVariants.{At, Refused as Placed-as-Refused}
 use Rattle.places.specs.declared.Held.{Held}
-use Rattle.places.specs.declared.Held.TheVariants.{By, Refused as Held-as-Refused}
 use Rattle.kinds.proofs.Table.{layout_at, bits_are, sane}
 use Rattle.kinds.proofs.Whole.{whole_at}
 use Rattle.laws.proofs.Unique.{one_answer}
@@ -56,28 +56,28 @@ pub one_rule : (k r l i : ℕ) → Legal k r → l < lanes → i < elements_at k
 one_rule = whole_at
 
 -- 'Show that no second answer satisfies it': two answers of place that meet its contract are equal, and two of the reverse question.
-placed_of : Answer Place → Placed
-placed_of (given x) = At (record { 0 = x.0 }) (record { 0 = x.1 }) (record { 0 = x.2 }) (record { 0 = x.3 })
-placed_of (refusal n d) = Placed-as-Refused (refusal_of n d)
+placed_of : Answer Place → Result Placed Refusal
+placed_of (given x) = Ok (record { row = record { 0 = x.0 }; column = record { 0 = x.1 }; word = record { 0 = x.2 }; bit = record { 0 = x.3 } })
+placed_of (refusal n d) = Err (refusal_of n d)
 
-held_of : Answer (ℕ × ℕ) → Held
-held_of (given x) = By (record { 0 = x.0 }) (record { 0 = x.1 })
-held_of (refusal n d) = Held-as-Refused (refusal_of n d)
+held_of : Answer (ℕ × ℕ) → Result Held Refusal
+held_of (given x) = Ok (record { lane = record { 0 = x.0 }; element = record { 0 = x.1 } })
+held_of (refusal n d) = Err (refusal_of n d)
 
-placed_back : (a : Placed) → placed_of (told_place a) ≡ a
+placed_back : (a : Result Placed Refusal) → placed_of (told_place a) ≡ a
 unfolding placed_of
-placed_back (At x y w b) = refl
-placed_back (Placed-as-Refused f) = ap Placed-as-Refused (refusal_back f)
+placed_back (Ok p) = refl
+placed_back (Err f) = ap Err (refusal_back f)
 
-held_back : (a : Held) → held_of (told_holder a) ≡ a
+held_back : (a : Result Held Refusal) → held_of (told_holder a) ≡ a
 unfolding held_of
-held_back (By l i) = refl
-held_back (Held-as-Refused f) = ap Held-as-Refused (refusal_back f)
+held_back (Ok h) = refl
+held_back (Err f) = ap Err (refusal_back f)
 
-pub one_place : (k r l i : ℕ) (a b : Placed) → Replies (place_call k r l i) (told_place a)
+pub one_place : (k r l i : ℕ) (a b : Result Placed Refusal) → Replies (place_call k r l i) (told_place a)
     → Replies (place_call k r l i) (told_place b) → a ≡ b
 one_place k r l i a b m n = one_answer told_place placed_of placed_back a b (told_place b) (no_second_reply m n) refl
 
-pub one_holder : (k r x y : ℕ) (a b : Held) → Replies (find_call k r x y) (told_holder a)
+pub one_holder : (k r x y : ℕ) (a b : Result Held Refusal) → Replies (find_call k r x y) (told_holder a)
     → Replies (find_call k r x y) (told_holder b) → a ≡ b
 one_holder k r x y a b m n = one_answer told_holder held_of held_back a b (told_holder b) (no_second_reply m n) refl

@@ -1,5 +1,5 @@
 -- Document 01, 'Refusal numbers', and document 02, K9: place 1, 2, 6, and the reverse question alike. Assumes nothing.
-use Rattle.std.specs.Prelude.{ℕ, [], ◌∷◌}
+use Rattle.std.specs.Prelude.{ℕ, [], ◌∷◌, Result, Ok, Err}
 use Rattle.answers.specs.Refusals.{Answer, given, refused}
 use Rattle.answers.specs.Tests.{Test, reaches, either}
 use Rattle.answers.specs.Calls.{◌when◌, ◌then◌, Call, answer}
@@ -7,19 +7,18 @@ use Rattle.kinds.specs.Kinds.{lanes, entry_of, kind_of, role_of, bits_at, column
 use Rattle.kinds.specs.Places.{place_of, Place, with_word_and_bit}
 use Rattle.kinds.specs.Rule.{layout_of, holder_of}
 use Rattle.kinds.specs.Refusals.{layout_refusals}
+use Rattle.answers.specs.declared.Refusal.{Refusal}
 use Rattle.places.specs.declared.Placed.{Placed}
-use Rattle.places.specs.declared.Placed.TheVariants.{At, Refused as Placed-as-Refused}
 use Rattle.places.specs.declared.Held.{Held}
-use Rattle.places.specs.declared.Held.TheVariants.{By, Refused as Held-as-Refused}
 
 -- what each case of an answer means: row, column, word and bit; lane and element
-abbrev pub told_place : Placed → Answer Place
-told_place (At row column word bit) = given (row.0, column.0, word.0, bit.0)
-told_place (Placed-as-Refused x) = refused x
+abbrev pub told_place : Result Placed Refusal → Answer Place
+told_place (Ok p) = given (p.row.0, p.column.0, p.word.0, p.bit.0)
+told_place (Err x) = refused x
 
-abbrev pub told_holder : Held → Answer (ℕ × ℕ)
-told_holder (By lane i) = given (lane.0, i.0)
-told_holder (Held-as-Refused x) = refused x
+abbrev pub told_holder : Result Held Refusal → Answer (ℕ × ℕ)
+told_holder (Ok h) = given (h.lane.0, h.element.0)
+told_holder (Err x) = refused x
 
 -- 6: lane over 31, element past the last; row or column past the last
 abbrev pub element_outside : (elements lane i : ℕ) → Test

@@ -9,18 +9,22 @@ ghost use Rattle.places.specs.PlaceCalls.{told_place, told_holder, element_outsi
 ghost use Rattle.places.specs.Workers.{place_call_in, find_call_in, tabled};
 
 use answers::Refusal;
-use kinds::{Bit, Column, Element, Kind, Known, Lane, Layout, Role, Row, Spot, Word};
+use kinds::{Bit, Column, Element, Kind, Lane, Layout, Role, Row, Spot, Word};
 
-#[derive(Clone, Copy)]
-pub enum Placed {
-    At(Row, Column, Word, Bit),
-    Refused(Refusal),
+// Where an element stands: its row and column in the matrix, its word within the lane and its lowest bit in that word.
+#[derive(Clone, Copy, Debug, PartialEq, Eq)]
+pub struct Placed {
+    pub row: Row,
+    pub column: Column,
+    pub word: Word,
+    pub bit: Bit,
 }
 
-#[derive(Clone, Copy)]
-pub enum Held {
-    By(Lane, Element),
-    Refused(Refusal),
+// Who holds an entry of the matrix.
+#[derive(Clone, Copy, Debug, PartialEq, Eq)]
+pub struct Held {
+    pub lane: Lane,
+    pub element: Element,
 }
 
 // Whether a lane or an element is past the last. The bits of a lane's words, which the table has, tell the elements: the spans would have to be
@@ -28,28 +32,25 @@ pub enum Held {
 fn element_outside(f: &Layout, lane: Lane, element: Element) -> bool
     ensures { Tells (element_outside (elements_of f.now) lane.0 element.0) result }
 {
-    if Lane::COUNT <= lane.0 as usize {
-        return true;
-    }
-    f.words * 32 <= element.0 as usize * f.bits
+    Lane::COUNT <= lane.0 as usize || f.words * 32 <= element.0 as usize * f.bits
 }
 
-fn place_in(f: &Layout, lane: Lane, element: Element) -> Placed
+fn place_in(f: &Layout, lane: Lane, element: Element) -> Result<Placed, Refusal>
     ensures { Replies (place_call_in f.now lane.0 element.0) (told_place result) }
 {
     if element_outside(f, lane, element) {
-        Placed::Refused(Refusal::Outside)
+        Err(Refusal::Outside)
     } else {
         let x = kinds::rule::across(f.side, f.halves, lane, element) as u32;
         let y = kinds::rule::along(f.side, f.halves, lane, element) as u32;
         let spot = Spot::of(f.bits, element);
-        let word = spot.word;
-        let bit = spot.bit;
-        if f.turned {
-            Placed::At(Row(y), Column(x), word, bit)
-        } else {
-            Placed::At(Row(x), Column(y), word, bit)
-        }
+        let (row, column) = if f.turned { (y, x) } else { (x, y) };
+        Ok(Placed {
+            row: Row(row),
+            column: Column(column),
+            word: spot.word,
+            bit: spot.bit,
+        })
     }
 }
 
@@ -57,57 +58,46 @@ fn place_in(f: &Layout, lane: Lane, element: Element) -> Placed
 fn has_table(kind: Kind, role: Role) -> bool
     ensures { Tells (tabled kind.0 role.0) result }
 {
-    if kind.0 != place_tables::KIND {
-        return false;
-    }
-    if role.0 != Role::A {
-        return false;
-    }
-    true
+    kind.0 == place_tables::KIND && role.0 == Role::A
 }
 
 // Whether a row or a column is past the last; and a lane or its element, asked alike.
 fn outside(rows: u32, columns: u32, row: u32, column: u32) -> bool
     ensures { Tells (entry_outside rows columns row column) result }
 {
-    if rows <= row {
-        return true;
-    }
-    if columns <= column {
-        return true;
-    }
-    false
+    rows <= row || columns <= column
 }
 
-fn place_by_table(lane: Lane, element: Element) -> Placed
+fn place_by_table(lane: Lane, element: Element) -> Result<Placed, Refusal>
     ensures { Replies (place_call 5 0 lane.0 element.0) (told_place result) }
 {
     let l = lane.0;
     let i = element.0;
     if outside(Lane::COUNT as u32, place_tables::ELEMENTS, l, i) {
-        Placed::Refused(Refusal::Outside)
+        Err(Refusal::Outside)
     } else {
         let entry = place_tables::place_at((place_tables::ELEMENTS * l + i) as usize) as u32;
         let row = Row(entry / place_tables::COLUMNS);
         let column = Column(entry % place_tables::COLUMNS);
         let spot = Spot::of(place_tables::BITS, element);
-        let word = spot.word;
-        let bit = spot.bit;
-        Placed::At(row, column, word, bit)
+        Ok(Placed {
+            row,
+            column,
+            word: spot.word,
+            bit: spot.bit,
+        })
     }
 }
 
 // The place of an element: its row and column, its word within the lane and its lowest bit in that word.
-pub fn place(kind: Kind, role: Role, lane: Lane, element: Element) -> Placed
+pub fn place(kind: Kind, role: Role, lane: Lane, element: Element) -> Result<Placed, Refusal>
     ensures { Replies (place_call kind.0 role.0 lane.0 element.0) (told_place result) }
 {
     if has_table(kind, role) {
         place_by_table(lane, element)
     } else {
-        match kinds::layout_of(kind, role) {
-            Known::As(f) => place_in(&f, lane, element),
-            Known::Refused(x) => Placed::Refused(x),
-        }
+        let f = kinds::layout_of(kind, role)?;
+        place_in(&f, lane, element)
     }
 }
 
@@ -126,55 +116,51 @@ fn spot_at(f: &Layout, x: usize, y: usize) -> Spot
 fn entry_outside(f: &Layout, x: u32, y: u32) -> bool
     ensures { Tells (entry_outside (majors f.now) (minors f.now) x y) result }
 {
-    if f.halves * 8 <= x as usize {
-        return true;
-    }
-    f.words * 1024 <= y as usize * (f.halves * 8 * f.bits)
+    f.halves * 8 <= x as usize || f.words * 1024 <= y as usize * (f.halves * 8 * f.bits)
 }
 
-fn find_in(f: &Layout, x: u32, y: u32) -> Held
+fn find_in(f: &Layout, x: u32, y: u32) -> Result<Held, Refusal>
     ensures { Replies (find_call_in f.now (x, y)) (told_holder result) }
 {
     if entry_outside(f, x, y) {
-        Held::Refused(Refusal::Outside)
+        Err(Refusal::Outside)
     } else {
         let l = kinds::rule::lane_at(f.side, x as usize, y as usize) as u32;
         let element = spot_at(f, x as usize, y as usize).element;
-        Held::By(Lane(l), element)
+        Ok(Held {
+            lane: Lane(l),
+            element,
+        })
     }
 }
 
-fn find_by_table(row: Row, column: Column) -> Held
+fn find_by_table(row: Row, column: Column) -> Result<Held, Refusal>
     ensures { Replies (find_call 5 0 row.0 column.0) (told_holder result) }
 {
     let x = row.0;
     let y = column.0;
     if outside(place_tables::ROWS, place_tables::COLUMNS, x, y) {
-        Held::Refused(Refusal::Outside)
+        Err(Refusal::Outside)
     } else {
         let entry = place_tables::holder_at((place_tables::COLUMNS * x + y) as usize) as u32;
         let lane = Lane(entry / place_tables::ELEMENTS);
         let element = Spot::of(place_tables::BITS, Element(entry % place_tables::ELEMENTS)).element;
-        Held::By(lane, element)
+        Ok(Held { lane, element })
     }
 }
 
 // The reverse question: the lane and the element whose place is at a row and a column.
-pub fn find(kind: Kind, role: Role, row: Row, column: Column) -> Held
+pub fn find(kind: Kind, role: Role, row: Row, column: Column) -> Result<Held, Refusal>
     ensures { Replies (find_call kind.0 role.0 row.0 column.0) (told_holder result) }
 {
     if has_table(kind, role) {
         find_by_table(row, column)
     } else {
-        match kinds::layout_of(kind, role) {
-            Known::As(f) => {
-                if f.turned {
-                    find_in(&f, column.0, row.0)
-                } else {
-                    find_in(&f, row.0, column.0)
-                }
-            }
-            Known::Refused(x) => Held::Refused(x),
+        let f = kinds::layout_of(kind, role)?;
+        if f.turned {
+            find_in(&f, column.0, row.0)
+        } else {
+            find_in(&f, row.0, column.0)
         }
     }
 }

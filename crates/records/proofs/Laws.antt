@@ -24,8 +24,8 @@ use Rattle.kinds.specs.Kinds.{entry_of, Arithmetic, one_bit_element, int4_elemen
 use Rattle.kinds.proofs.Table.{among_≤}
 use Rattle.buffers.specs.Buffers.{Fitting, words_needed}
 use Rattle.step.specs.Workers.{told_line}
-use Rattle.step.specs.declared.Selected.{Selected}
-use Rattle.step.specs.declared.Selected.TheVariants.{As, Refused as Selected-as-Refused}
+use Rattle.step_work.specs.declared.Selected.{Selected}
+use Rattle.std.specs.Prelude.{Result, Ok, Err}
 use Rattle.step_limit.proofs.Marks.{get_d_past}
 use Rattle.records.specs.Records.{Part, part_a, part_b, part_c, part_d, bytes_of, word_at, words_in, words_used, logged, asks_plain, mode_for, kind_in, record_refusals, record_call}
 
@@ -84,12 +84,10 @@ for_plain signs mode p = ap (λ (b : Bool). if b then 0 else mode) ((says (asks_
 pub for_own : (signs mode : ℕ) → ¬ Says (asks_plain signs mode) → mode_for signs mode ≡ mode
 for_own signs mode n = ap (λ (b : Bool). if b then 0 else mode) ((says_not (asks_plain signs mode)).1 n)
 
--- what a record's judge told: the line of its kind, where every refusal was passed, or the first that applies
-module _ (bytes : List ℕ) (s : Selected) (told : Replies (record_call bytes) (told_line s)) where
-  pub judged : (line : Entry) → s ≡ As line → Passes (record_refusals bytes) × (line ≡ entry_of (kind_in bytes))
-  judged line e =
-      let is = sym (ap told_line e) ∙ reply_is told in
-      (passes (record_refusals bytes) (entry_of (kind_in bytes)) (sym is), first_gives (record_refusals bytes) (entry_of (kind_in bytes)) is)
+-- what a record's judge told: where every refusal was passed, or the first that applies
+module _ (bytes : List ℕ) (r : Result Selected Refusal) (reply : Replies (record_call bytes) (told_line r)) where
+  pub judged : (s : Selected) → r ≡ Ok s → Passes (record_refusals bytes)
+  judged s e = passes (record_refusals bytes) (entry_of (kind_in bytes)) (sym (sym (ap told_line e) ∙ reply_is reply))
 
-  pub refused_first : {X : Type 0} (gives : X) (x : Refusal) → s ≡ Selected-as-Refused x → refused x ≡ first (record_refusals bytes) gives
-  refused_first gives x e = handed_on (record_refusals bytes) [] (entry_of (kind_in bytes)) gives (number_of x) (detail_of x) (sym (ap told_line e) ∙ reply_is told)
+  pub refused_first : {X : Type 0} (gives : X) (x : Refusal) → r ≡ Err x → refused x ≡ first (record_refusals bytes) gives
+  refused_first gives x e = handed_on (record_refusals bytes) [] (entry_of (kind_in bytes)) gives (number_of x) (detail_of x) (sym (ap told_line e) ∙ reply_is reply)

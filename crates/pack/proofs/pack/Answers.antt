@@ -12,13 +12,13 @@ use Rattle.pack.proofs.ByLayout.{pack_is}
 use Rattle.pack.proofs.pack.Goals as goal
 
 pub pack_in-requires : goal.pack_in-requires
-pack_in-requires c = known_sane _ _ _ c.layout_of.ensures _ c.in-As.is
+pack_in-requires c = known_sane _ _ _ c.layout_of.ensures _ c.in_ok-f.was
 
-pub returns-in-As : goal.returns-in-As
-returns-in-As c =
+pub returns : goal.returns
+returns c =
     let a = c.args in
     let u = c.pack_in in
-    let g = known_legal _ _ _ c.layout_of.ensures _ c.in-As.is in
+    let g = known_legal _ _ _ c.layout_of.ensures _ c.in_ok-f.was in
     meets
     (verdict_is u.ensures
     ∙ ap (λ (f : Layout). judgement (pack_call_in f a.matrix.now a.words.now)) g.1

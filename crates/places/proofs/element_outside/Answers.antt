@@ -6,7 +6,7 @@ use Rattle.kinds.proofs.Table.{by_fields}
 use Rattle.places.proofs.Limits.{second_decides, past_element}
 use Rattle.places.proofs.element_outside.Goals as goal
 
-pub returns : goal.returns
-returns c =
+pub returns-else-lane-ge-COUNT : goal.returns-else-lane-ge-COUNT
+returns-else-lane-ge-COUNT c =
     let in_warp : c.args.lane.0 < lanes = omega arith in
     rw (← c.f.view_is) (tells _ _ (second_decides lanes _ in_warp (past_element (by_fields c.f.inside) c.f.invariant _)))

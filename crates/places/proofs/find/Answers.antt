@@ -16,8 +16,8 @@ returns-then-f c =
     let a = c.args in
     replies
     (reply_is c.find_in.ensures
-    ∙ ap (λ (t : Bool). answer (find_call_in c.in-As.f (turn t (a.row.0, a.column.0)))) (sym c.if-f.true ∙ ap (λ (f : Layout). f.turned) c.f.view_is)
-    ∙ known_found _ _ _ c.layout_of.ensures _ c.in-As.is _ _)
+    ∙ ap (λ (t : Bool). answer (find_call_in c.in_ok-f.f (turn t (a.row.0, a.column.0)))) (sym c.if-f.true ∙ ap (λ (f : Layout). f.turned) c.f.view_is)
+    ∙ known_found _ _ _ c.layout_of.ensures _ c.in_ok-f.was _ _)
 
 pub returns-else-f : goal.returns-else-f
 unfolding find_answer
@@ -25,5 +25,5 @@ returns-else-f c =
     let a = c.args in
     replies
     (reply_is c.find_in-else-f.ensures
-    ∙ ap (λ (t : Bool). answer (find_call_in c.in-As.f (turn t (a.row.0, a.column.0)))) (sym c.if-f.false ∙ ap (λ (f : Layout). f.turned) c.f.view_is)
-    ∙ known_found _ _ _ c.layout_of.ensures _ c.in-As.is _ _)
+    ∙ ap (λ (t : Bool). answer (find_call_in c.in_ok-f.f (turn t (a.row.0, a.column.0)))) (sym c.if-f.false ∙ ap (λ (f : Layout). f.turned) c.f.view_is)
+    ∙ known_found _ _ _ c.layout_of.ensures _ c.in_ok-f.was _ _)

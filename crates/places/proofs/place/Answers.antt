@@ -6,6 +6,6 @@ use Rattle.places.specs.PlaceCalls.{place_answer}
 use Rattle.places.proofs.ByRule.{known_placed}
 use Rattle.places.proofs.place.Goals as goal
 
-pub returns-in-As : goal.returns-in-As
+pub returns-in_ok-f : goal.returns-in_ok-f
 unfolding place_answer
-returns-in-As c = replies (reply_is c.place_in.ensures ∙ known_placed _ _ _ c.layout_of.ensures _ c.in-As.is c.args.lane.0 c.args.element.0)
+returns-in_ok-f c = replies (reply_is c.place_in.ensures ∙ known_placed _ _ _ c.layout_of.ensures _ c.in_ok-f.was c.args.lane.0 c.args.element.0)

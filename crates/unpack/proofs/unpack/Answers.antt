@@ -12,13 +12,13 @@ use Rattle.unpack.proofs.ByLayout.{unpack_is}
 use Rattle.unpack.proofs.unpack.Goals as goal
 
 pub unpack_in-requires : goal.unpack_in-requires
-unpack_in-requires c = known_sane _ _ _ c.layout_of.ensures _ c.in-As.is
+unpack_in-requires c = known_sane _ _ _ c.layout_of.ensures _ c.in_ok-f.was
 
-pub returns-in-As : goal.returns-in-As
-returns-in-As c =
+pub returns : goal.returns
+returns c =
     let a = c.args in
     let u = c.unpack_in in
-    let g = known_legal _ _ _ c.layout_of.ensures _ c.in-As.is in
+    let g = known_legal _ _ _ c.layout_of.ensures _ c.in_ok-f.was in
     meets
     (verdict_is u.ensures
     ∙ ap (λ (f : Layout). judgement (unpack_call_in f a.words.now a.matrix.now)) g.1
