@@ -2,10 +2,11 @@
 use mathlib.Core.Path.{◌≡◌, refl, sym, ap, ap₂, subst, ◌∙◌}
 use mathlib.Core.List.{List}
 use mathlib.Core.Logic.{⊎_elim}
-use Prim.Native.Nat.{ℕ, ◌+◌, ◌*◌, ◌/◌, ◌%◌, ◌^◌, ◌<◌, ◌≤◌}
-use native.Mathlib.Nat.{mul-one}
+use Prim.Native.Nat.{ℕ, zero, suc, ◌+◌, ◌*◌, ◌/◌, ◌%◌, ◌^◌, ◌<◌, ◌≤◌}
+use native.Mathlib.Nat.{add_comm, add-mul, mul_assoc, mul_comm, mul-one, mul-suc, mul-zero}
 use native.Mathlib.Omega.{arith}
 use lib.Arith.{digits_lt}
+use lib.Pow.{pow-add}
 use lib.ListN.{length, get_or}
 use Rattle.laws.specs.Fields.{field, joined}
 use Rattle.laws.specs.Toward.{Brings, Below, At, stores}
@@ -23,6 +24,15 @@ use Rattle.buffers.proofs.Places.{place_in_lem, stretch_fills, wide_is}
 use Rattle.buffers.proofs.Round.{word_number, packed_word}
 use Rattle.buffers.proofs.Stretches.{narrow_size, wide_size, one_word, two_words, starts, narrow_word, wide_element, stretches_elements, stretch_element, stretch_word, start_within, holding_pos, lane_small, narrow_at}
 use Rattle.pack_lanes.specs.Numbers.{Numbers}
+
+-- a number joined of fields is the rest of them shifted up, and the first below them
+pub joined_first : (b n : ℕ) (f : ℕ → ℕ) → joined b (suc n) f ≡ joined b n (λ i. f (suc i)) * 2 ^ b + f 0
+unfolding joined
+joined_first b zero f = rw mul-zero (omega arith)
+joined_first b (suc n) f =
+    let up : 2 ^ (b * suc n) ≡ 2 ^ (b * n) * 2 ^ b = ap (λ (e : ℕ). 2 ^ e) (mul-suc b n ∙ add_comm (b * n) b) ∙ pow-add 2 b (b * n) ∙ mul_comm (2 ^ b) (2 ^ (b * n)) in
+    ap₂ (λ (p r : ℕ). f (suc n) * p + r) up (joined_first b n f)
+    ∙ omega (arith, mul_assoc (f (suc n)) (2 ^ (b * n)) (2 ^ b), add-mul (f (suc n) * 2 ^ (b * n)) (joined b n (λ i. f (suc i))) (2 ^ b))
 
 -- a number below 2 ^ 32 is its one field
 one_field : (j v : ℕ) → j ≡ 0 → v < 2 ^ 32 → field 32 j v ≡ v

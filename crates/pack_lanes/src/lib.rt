@@ -12,7 +12,7 @@ ghost use Rattle.buffers.specs.Stretches.{holding, holding_of, stretches_of, Wor
 
 use buffers::Stretch;
 use buffers::walk::{self, Filling};
-use kinds::{Element, Lane, Layout, Spot};
+use kinds::{Lane, Layout};
 
 // The number whose fields are so many entries from base on, step apart.
 fn gather(matrix: &[u64], bits: usize, base: usize, step: usize, count: usize) -> u64
@@ -21,12 +21,9 @@ fn gather(matrix: &[u64], bits: usize, base: usize, step: usize, count: usize) -
     ensures is { result ≡ joined bits count (λ j. get_or matrix.now (base + j * step) 0) }
     ensures small { result < 2 ^ 32 }
 {
-    let mut sum: u64 = 0;
-    let mut j = 0;
-    while j < count {
-        let bit = Spot::of(bits, Element(j as u32)).bit;
-        sum = (matrix[base + j * step] << bit.0) + sum;
-        j += 1;
+    let mut sum = 0;
+    for j in (0..count).rev() {
+        sum = (sum << bits) + matrix[base + j * step];
     }
     sum
 }
