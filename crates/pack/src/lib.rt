@@ -2,7 +2,6 @@
 #![tactic(auto)]
 
 ghost use Rattle.std.specs.Prelude.{◌≡◌, ◌<◌, ◌≤◌, length};
-ghost use Rattle.kinds.specs.Workers.{Laid};
 ghost use Rattle.answers.specs.Tests.{first_of};
 ghost use Rattle.answers.specs.Promised.{Meets};
 ghost use Rattle.pack.specs.Workers.{pack_call_in};
@@ -27,22 +26,17 @@ fn first_wide(matrix: &[u64], bits: usize) -> usize
     i
 }
 
-fn pack_in(f: Layout, matrix: &[u64], words: &mut [u32]) -> Result<(), Refusal>
-    requires { Laid f }
-    ensures { Meets (pack_call_in f matrix.now words.old) words.old result
+fn pack_in(f: &Layout, matrix: &[u64], words: &mut [u32]) -> Result<(), Refusal>
+    ensures { Meets (pack_call_in f.now matrix.now words.old) words.old result
         words.new }
 {
-    let each = f.words;
-    let bits = f.bits;
-    let rows = buffers::rows_in(f);
-    let columns = buffers::columns_in(f);
-    if matrix.len() != rows * columns {
+    if matrix.len() != f.rows() * f.columns() {
         return Err(Refusal::WrongLength(0));
     }
-    if words.len() != Lane::COUNT * each {
+    if words.len() != Lane::COUNT * f.words {
         return Err(Refusal::WrongLength(1));
     }
-    let wide = first_wide(matrix, bits);
+    let wide = first_wide(matrix, f.bits);
     if wide < matrix.len() {
         return Err(Refusal::TooWide(wide as u32));
     }
@@ -56,5 +50,5 @@ pub fn pack(kind: Kind, role: Role, matrix: &[u64], words: &mut [u32]) -> Result
         words.old result words.new }
 {
     let f = kinds::layout_of(kind, role)?;
-    pack_in(f, matrix, words)
+    pack_in(&f, matrix, words)
 }

@@ -29,7 +29,7 @@ pub fn read(record: &[u8], words: &mut [u32]) -> Result<(), Refusal>
     let f = Layout::of(Kind(3), Role(Role::B));
     let mut matrix: [u64; 256] = [0; 256];
     widen(record, &mut matrix);
-    pack_lanes::fill_words(&matrix, words, f);
+    pack_lanes::fill_words(&matrix, words, &f);
     Ok(())
 }
 
@@ -46,7 +46,7 @@ pub fn write(words: &[u32], record: &mut [u8]) -> Result<(), Refusal>
     }
     let f = Layout::of(Kind(3), Role(Role::B));
     let mut matrix: [u64; 256] = [0; 256];
-    unpack_lanes::fill(words, &mut matrix, f);
+    unpack_lanes::fill(words, &mut matrix, &f);
     narrow(&matrix, record);
     Ok(())
 }

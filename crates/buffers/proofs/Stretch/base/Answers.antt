@@ -1,13 +1,13 @@
 -- The two branches are the two ways round; the numbers are those of the stretch's first element, and they are small. Assumes nothing.
 use Rattle.std.proofs.Common.{ℕ, Bool, true, false, ◌≡◌, ◌∙◌, sym, ap, ap₂, ◌+◌, ◌*◌, ◌/◌, ◌%◌, ◌<◌, ◌≤◌, arith}
 use Rattle.std.proofs.Math.Nat.{mul-le-mul, mod-lt, div-le_self}
-use Rattle.kinds.specs.Rule.{columns_of, turn}
-use Rattle.kinds.specs.Workers.{Laid}
-use Rattle.kinds.specs.declared.Layout.{Layout}
+use Rattle.kinds.specs.Rule.{Layout, columns_of, turn}
+use Rattle.kinds.specs.Laid.{Laid}
+use Rattle.kinds.proofs.Table.{by_fields}
 use Rattle.buffers.specs.Buffers.{index}
 use Rattle.buffers.specs.Stretches.{size_of, abreast_in, stretches_of, place_at}
 use Rattle.buffers.proofs.Stretches.{first_major, first_minor, stretches_few}
-use Rattle.buffers.proofs.base_of.Goals as goal
+use Rattle.buffers.proofs.Stretch.base.Goals as goal
 
 -- the major and the minor number that the code puts together
 abbrev across : (half l : ℕ) → ℕ
@@ -44,20 +44,30 @@ module _ (f : Layout) (ok : Laid f) (r l : ℕ) (inside : r < stretches_of f) (l
 
 pub returns-then-f-clause-is : goal.returns-then-f-clause-is
 returns-then-f-clause-is c =
-    placed c.args.f c.requires.0 c.args.stretch.0 c.args.lane.0 c.requires.1 c.requires.2 _ _ _ _ _ _ c.abreast-by.ensures.few c.quotient-group.ensures c.remainder.ensures
-    c.quotient.ensures c.remainder-2.ensures true c.if-f.true c.abreast-by.ensures.is c.columns_in-columns.ensures.is
+    let by = rw (← c.f.view_is) at c.abreast-by.ensures.is in
+    let columns = rw (← c.f.view_is) at c.columns-columns.ensures.is in
+    let inside = rw (← c.f.view_is) at c.requires.0 in
+    rw (← c.f.view_is)
+    (placed (by_fields c.f.inside) c.f.invariant c.args.self.0 c.args.lane.0 inside c.requires.1 _ _ _ _ _ _ c.abreast-by.ensures.few c.quotient-group.ensures c.remainder.ensures
+    c.quotient.ensures c.remainder-2.ensures true c.if-f.true by columns)
 
 pub returns-then-f-clause-small : goal.returns-then-f-clause-small
 returns-then-f-clause-small c =
-    turned_small c.args.f c.requires.0 c.args.stretch.0 c.args.lane.0 c.requires.1 c.requires.2 _ _ _ _ _ _ c.abreast-by.ensures.few c.quotient-group.ensures c.remainder.ensures
-    c.quotient.ensures c.remainder-2.ensures c.columns_in-columns.ensures.small
+    let inside = rw (← c.f.view_is) at c.requires.0 in
+    turned_small (by_fields c.f.inside) c.f.invariant c.args.self.0 c.args.lane.0 inside c.requires.1 _ _ _ _ _ _ c.abreast-by.ensures.few c.quotient-group.ensures c.remainder.ensures
+    c.quotient.ensures c.remainder-2.ensures c.columns-columns.ensures.small
 
 pub returns-clause-is : goal.returns-clause-is
 returns-clause-is c =
-    placed c.args.f c.requires.0 c.args.stretch.0 c.args.lane.0 c.requires.1 c.requires.2 _ _ _ _ _ _ c.abreast-by.ensures.few c.quotient-group.ensures c.remainder.ensures
-    c.quotient.ensures c.remainder-2.ensures false c.if-f.false c.abreast-by.ensures.is c.columns_in-columns.ensures.is
+    let by = rw (← c.f.view_is) at c.abreast-by.ensures.is in
+    let columns = rw (← c.f.view_is) at c.columns-columns.ensures.is in
+    let inside = rw (← c.f.view_is) at c.requires.0 in
+    rw (← c.f.view_is)
+    (placed (by_fields c.f.inside) c.f.invariant c.args.self.0 c.args.lane.0 inside c.requires.1 _ _ _ _ _ _ c.abreast-by.ensures.few c.quotient-group.ensures c.remainder.ensures
+    c.quotient.ensures c.remainder-2.ensures false c.if-f.false by columns)
 
 pub returns-clause-small : goal.returns-clause-small
 returns-clause-small c =
-    straight_small c.args.f c.requires.0 c.args.stretch.0 c.args.lane.0 c.requires.1 c.requires.2 _ _ _ _ _ _ c.abreast-by.ensures.few c.quotient-group.ensures c.remainder.ensures
-    c.quotient.ensures c.remainder-2.ensures c.columns_in-columns.ensures.small
+    let inside = rw (← c.f.view_is) at c.requires.0 in
+    straight_small (by_fields c.f.inside) c.f.invariant c.args.self.0 c.args.lane.0 inside c.requires.1 _ _ _ _ _ _ c.abreast-by.ensures.few c.quotient-group.ensures c.remainder.ensures
+    c.quotient.ensures c.remainder-2.ensures c.columns-columns.ensures.small
