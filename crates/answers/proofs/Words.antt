@@ -1,6 +1,10 @@
 -- A test holds exactly when it says so, and the first index of a `somewhere`. Assumes nothing.
-use Rattle.std.proofs.Common.{if◌then◌else◌}
-use mathlib.Core.Path.{◌≡◌, refl, sym, ap, subst, ◌∙◌}
+use Rattle.std.proofs.Common.{if◌then◌else◌, one-add}
+use Rattle.std.specs.List.{list_any, position_or_len}
+use Rattle.std.proofs.lemmas.List.Recursion.{or_is, is_position_or_len}
+use mathlib.Core.List.{List}
+use lib.ListN.{length, get_or}
+use mathlib.Core.Path.{◌≡◌, refl, sym, ap, ap₂, subst, ◌∙◌}
 use mathlib.Core.Bool.{Bool, true, false, not, ◌&&◌, ◌||◌, false≢true}
 use mathlib.Core.Logic.{◌↔◌, ◌⊎◌, inl, inr}
 use Prim.Native.Nat.{ℕ, zero, suc, ◌<◌, ◌≤◌, zero-le, suc-le-suc}
@@ -139,3 +143,18 @@ module _ (n : ℕ) (t : ℕ → Test) where
 
   pub first_nowhere : (i : ℕ) → i ≡ n → ((j : ℕ) → j < i → ¬ Says (t j)) → i ≡ first_of n t
   first_nowhere i e h = e ∙ first_none n (λ k. holds (t k)) (λ j l. (says_not (t j)).1 (h j (omega arith)))
+
+-- What the library's own look at the entries of a list finds, where it asks of an entry what a test says.
+module _ (f : ℕ → Bool) (t : ℕ → Test) (same : (x : ℕ) → holds (t x) ≡ f x) where
+  pub any_is : (xs : List ℕ) → holds (somewhere (length xs) (λ i. t (get_or xs i 0))) ≡ list_any f xs
+  any_is xs =
+      let s = somewhere (length xs) (λ i. t (get_or xs i 0)) in
+      or_is (list_any f) f refl (λ x ys. refl) xs 0 (holds s)
+      (λ e. let found = (says s).0 e in (found.0, found.1, sym (same _) ∙ (says (t _)).1 found.2))
+      (λ e i l. sym (same _) ∙ (says_not (t _)).1 (λ p. (says_not s).0 e (i, l, p)))
+
+  pub position_is : (xs : List ℕ) → first_of (length xs) (λ i. t (get_or xs i 0)) ≡ position_or_len f xs
+  unfolding first_true
+  position_is =
+      is_position_or_len (λ (xs : List ℕ). first_of (length xs) (λ i. t (get_or xs i 0))) f refl
+      (λ x xs. ap₂ (λ (b : Bool) (n : ℕ). if b then 0 else n) (same x) (sym (one-add (first_of (length xs) (λ i. t (get_or xs i 0))))))

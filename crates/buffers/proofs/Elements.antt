@@ -5,19 +5,23 @@ use mathlib.Core.Bool.{Bool, true, false}
 use mathlib.Core.Logic.{⊎_elim}
 use mathlib.Core.List.{List}
 use Prim.Native.Nat.{ℕ, ◌+◌, ◌*◌, ◌/◌, ◌%◌, ◌^◌, ◌≤◌, ◌<◌}
-use native.Mathlib.Nat.{one-mul, mul_assoc, mul_comm, mod-lt, div-add-mod', div-lt_iff_lt-mul, le-mul_of_pos_right, le_of_mul-le-mul_left}
+use native.Mathlib.Nat.{one-mul, mul_assoc, mul_comm, mod-eq_of_lt, mod-lt, div-add-mod', div-lt_iff_lt-mul, le-mul_of_pos_right, le_of_mul-le-mul_left}
 use native.Mathlib.Omega.{arith}
 use borrow.Author.Tests.{ne_eqb}
 use lib.ListN.{get_or}
-use lib.Pow.{pow_pos}
+use lib.Pow.{pow_pos, pow-lt}
 use Rattle.laws.specs.Fields.{bits_from, field, joined}
 use Rattle.laws.proofs.Fields.{field_joined, field_field, field_wide, joined_ext, joined_two}
 use Rattle.laws.proofs.Toward.{same_or_not}
 use Rattle.kinds.specs.Places.{word_within, lowest_bit, whose_bit}
 use Rattle.kinds.specs.Rule.{turn}
-use Rattle.kinds.specs.Workers.{Width}
+use Rattle.kinds.specs.Laid.{Width}
 use Rattle.kinds.proofs.Spots.{per_pos, word_of, bit_of}
 use Rattle.buffers.specs.Buffers.{words_from, held_at, element_at}
+
+-- 1, shifted up, is a power of two
+pub one_shl : (b : ℕ) → b < 64 → 1 * 2 ^ b % 2 ^ 64 ≡ 2 ^ b
+one_shl b l = rw one-mul (mod-eq_of_lt (pow-lt l))
 
 -- a width other than 64
 module _ (b : ℕ) (w : Width b) (ne : b ≡ 64 → ⊥) where

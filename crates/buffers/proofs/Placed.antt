@@ -5,11 +5,10 @@ use Prim.Native.Nat.{ℕ, ◌*◌, ◌<◌}
 use lib.ListN.{get_or}
 use Rattle.kinds.specs.Kinds.{lanes, columns_at, Legal}
 use Rattle.kinds.specs.Places.{Place, word_within, lowest_bit}
-use Rattle.kinds.specs.Rule.{elements_of, rows_of, columns_of, place_in}
-use Rattle.kinds.specs.Workers.{Laid}
+use Rattle.kinds.specs.Rule.{Layout, elements_of, rows_of, columns_of, place_in}
+use Rattle.kinds.specs.Laid.{Laid}
 use Rattle.answers.specs.Refusals.{given}
 use Rattle.places.specs.PlaceCalls.{place_answer}
-use Rattle.kinds.specs.declared.Layout.{Layout}
 use Rattle.kinds.proofs.Table.{layout_at, sane, rows_are, columns_are, bits_are, words_are}
 use Rattle.places.proofs.ByRule.{by_rule, placed_inside, rule_placed, place_legal}
 use Rattle.buffers.specs.Buffers.{held_at, held_in, element_at, index, words_needed, entries_needed}

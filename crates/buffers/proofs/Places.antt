@@ -6,9 +6,8 @@ use native.Mathlib.Nat.{mul_assoc, add-mul, add-zero, eq_of_mul-eq-mul_left, mul
 use native.Mathlib.Omega.{arith}
 use lib.Arith.{digits_lt, digits_div, digits_mod}
 use Rattle.kinds.specs.Kinds.{lanes}
-use Rattle.kinds.specs.Rule.{elements_of, majors, minors, rows_of, columns_of, turn, major, minor, place_in}
-use Rattle.kinds.specs.Workers.{Laid}
-use Rattle.kinds.specs.declared.Layout.{Layout}
+use Rattle.kinds.specs.Rule.{Layout, elements_of, majors, minors, rows_of, columns_of, turn, major, minor, place_in}
+use Rattle.kinds.specs.Laid.{Laid}
 use Rattle.kinds.proofs.Digits.{major_lt, minor_lt}
 use Rattle.buffers.specs.Buffers.{index}
 use Rattle.buffers.specs.Stretches.{step_of}

@@ -13,9 +13,8 @@ use Rattle.laws.specs.Lists.{blocks}
 use Rattle.laws.proofs.Fields.{field_lt, field_joined, joined_field, joined_ext, joined_lt}
 use Rattle.laws.proofs.Lists.{length_tab, get_or_tab, is_tab}
 use Rattle.kinds.specs.Kinds.{lanes}
-use Rattle.kinds.specs.Rule.{elements_of, majors, minors, rows_of, columns_of, turn, major, minor, place_in, holder_in, holder_of}
-use Rattle.kinds.specs.Workers.{Laid}
-use Rattle.kinds.specs.declared.Layout.{Layout}
+use Rattle.kinds.specs.Rule.{Layout, elements_of, majors, minors, rows_of, columns_of, turn, major, minor, place_in, holder_in, holder_of}
+use Rattle.kinds.specs.Laid.{Laid}
 use Rattle.kinds.proofs.Digits.{lane_back, element_back, major_back, minor_back, lane_lt, element_lt, major_lt, minor_lt}
 use Rattle.places.proofs.ByRule.{turn_turn}
 use Rattle.buffers.specs.Buffers.{element_at, index, entry_at, unpacked, word_at, packed, Fitting}
@@ -26,6 +25,15 @@ use Rattle.buffers.proofs.Places.{place_in_lem, columns_pos}
 turned_out : (t : Bool) (m n x y : ℕ) → x < m → y < n → (turn t (x, y)).1 < (turn t (m, n)).1
 turned_out false m n x y a b = b
 turned_out true m n x y a b = a
+
+module _ (f : Layout) where
+  pub unpacked_length : (ws : List ℕ) → length (unpacked f ws) ≡ rows_of f * columns_of f
+  unfolding unpacked
+  unpacked_length ws = length_tab (rows_of f * columns_of f) (blocks (columns_of f) (entry_at f ws))
+
+  pub packed_length : (m : List ℕ) → length (packed f m) ≡ lanes * f.words
+  unfolding packed
+  packed_length m = length_tab (lanes * f.words) (blocks f.words (word_at f m))
 
 module _ (f : Layout) (ok : Laid f) where
   abbrev p : ℕ
@@ -84,10 +92,6 @@ module _ (f : Layout) (ok : Laid f) where
       ∙ ap₂ (entry_at f ws) (digits_div (place_in f lane i).0 (column_in lane i hl hi)) (digits_mod (place_in f lane i).0 (column_in lane i hl hi))
       ∙ ap (λ (z : ℕ × ℕ). element_at f.bits f.words ws z.0 z.1) (holder_back lane i hl)
 
-  pub unpacked_length : (ws : List ℕ) → length (unpacked f ws) ≡ rows_of f * columns_of f
-  unfolding unpacked
-  unpacked_length ws = length_tab (rows_of f * C) (blocks C (entry_at f ws))
-
   -- and no other matrix has that
   module _ (ws m : List ℕ) (n : length m ≡ rows_of f * columns_of f) (at : (lane i : ℕ) → lane < lanes → i < elements_of f → get_or m (index C (place_in f lane i)) 0 ≡ element_at f.bits f.words ws lane i) where
     entry_is : (row column : ℕ) → row < rows_of f → column < columns_of f → get_or m (index C (row, column)) 0 ≡ entry_at f ws row column
@@ -105,7 +109,7 @@ module _ (f : Layout) (ok : Laid f) where
   pub unpacked_fits : (ws : List ℕ) → Fitting f.bits (unpacked f ws)
   unfolding unpacked entry_at
   unpacked_fits ws z l =
-      let e = get_or_tab (rows_of f * C) (blocks C (entry_at f ws)) z 0 (omega (arith, unpacked_length ws)) in
+      let e = get_or_tab (rows_of f * C) (blocks C (entry_at f ws)) z 0 (omega (arith, unpacked_length f ws)) in
       subst (λ (v : ℕ). v < 2 ^ f.bits) (sym e) (elements.element_lt f.bits f.words ws (holder_of f (z / C, z % C)).0 (holder_of f (z / C, z % C)).1)
 
   -- an element of the lane lies within its words, and a word within its elements
@@ -124,10 +128,6 @@ module _ (f : Layout) (ok : Laid f) where
   packed_word m lane k hl hk =
       get_or_tab (lanes * f.words) (blocks f.words (word_at f m)) (lane * f.words + k) 0 (word_in lane k hl hk)
       ∙ ap₂ (word_at f m) (digits_div lane hk) (digits_mod lane hk)
-
-  pub packed_length : (m : List ℕ) → length (packed f m) ≡ lanes * f.words
-  unfolding packed
-  packed_length m = length_tab (lanes * f.words) (blocks f.words (word_at f m))
 
   -- the number whose elements are the entries at a lane's places
   abbrev entries : List ℕ → ℕ → ℕ → ℕ
@@ -178,7 +178,7 @@ module _ (f : Layout) (ok : Laid f) where
     unpacked_word : (lane k : ℕ) → lane < lanes → k < f.words → word_at f (unpacked f ws) lane k ≡ get_or ws (lane * f.words + k) 0
     unfolding lane_number
     unpacked_word lane k hl hk =
-        word_number (unpacked f ws) (unpacked_fits ws) (unpacked_length ws) lane k hl hk
+        word_number (unpacked f ws) (unpacked_fits ws) (unpacked_length f ws) lane k hl hk
         ∙ ap (field 32 k) (unpacked_number lane hl)
         ∙ field_joined 32 f.words (λ k. get_or ws (lane * f.words + k) 0) (word_fits lane hl) k hk
 

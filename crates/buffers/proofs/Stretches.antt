@@ -14,9 +14,8 @@ use Rattle.laws.specs.Toward.{Below}
 use Rattle.laws.proofs.Toward.{same_or_not}
 use Rattle.kinds.specs.Kinds.{lanes}
 use Rattle.kinds.specs.Places.{word_within}
-use Rattle.kinds.specs.Rule.{elements_of, rows_of, columns_of, major, minor, holder_of}
-use Rattle.kinds.specs.Workers.{Laid}
-use Rattle.kinds.specs.declared.Layout.{Layout}
+use Rattle.kinds.specs.Rule.{Layout, elements_of, rows_of, columns_of, major, minor, holder_of}
+use Rattle.kinds.specs.Laid.{Laid}
 use Rattle.kinds.proofs.Spots.{word_of}
 use Rattle.buffers.specs.Buffers.{index}
 use Rattle.buffers.specs.Stretches.{size_of, abreast_in, stretches_of, holding_of, place_at, OfQuad, WordsOfQuad, step_of}

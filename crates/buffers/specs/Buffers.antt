@@ -5,8 +5,7 @@ use Rattle.laws.specs.Fields.{bits_from, joined}
 use Rattle.laws.specs.Lists.{tab, blocks}
 use Rattle.kinds.specs.Kinds.{lanes, word_bits, entry_of, role_of, bits_at, columns_at, rows_at, words_at}
 use Rattle.kinds.specs.Places.{word_within, lowest_bit, whose_bit}
-use Rattle.kinds.specs.Rule.{layout_of, rows_of, columns_of, place_in, holder_of}
-use Rattle.kinds.specs.declared.Layout.{Layout}
+use Rattle.kinds.specs.Rule.{Layout, layout_of, rows_of, columns_of, place_in, holder_of}
 
 -- A warp buffer holds lane 0's words, then lane 1's, and so on. What an element stands in: a word, or of 64 bits two, low half first.
 abbrev pub words_from : (bits : ℕ) → List ℕ → (n : ℕ) → ℕ

@@ -4,8 +4,7 @@ use Rattle.std.specs.Prelude.{ℕ, ◌+◌, ◌*◌, Bool, true, false, if◌the
 use Rattle.laws.specs.Choice.{◌<?◌, ◌=?◌}
 use Rattle.laws.specs.Toward.{Below, At}
 use Rattle.kinds.specs.Kinds.{word_bits}
-use Rattle.kinds.specs.Rule.{columns_of, place_in}
-use Rattle.kinds.specs.declared.Layout.{Layout}
+use Rattle.kinds.specs.Rule.{Layout, columns_of, place_in}
 use Rattle.buffers.specs.Buffers.{index}
 
 -- the elements of a stretch, the stretches side by side, and those of a lane
@@ -18,9 +17,12 @@ abreast_in f = if f.bits <? word_bits then 1 else f.side
 abbrev pub stretches_of : Layout → ℕ
 stretches_of f = f.spans * f.halves * abreast_in f
 
--- the words that hold one
+-- the words that hold one, by the bits of an element
+abbrev pub holding : ℕ → ℕ
+holding b = if b =? 64 then 2 else 1
+
 abbrev pub holding_of : Layout → ℕ
-holding_of f = if f.bits =? 64 then 2 else 1
+holding_of f = holding f.bits
 
 -- the index of an element's place in the matrix
 abbrev pub place_at : Layout → (lane i : ℕ) → ℕ
@@ -44,3 +46,10 @@ WordsOfQuad f n r quad = Below 4 (λ t. WordsOfLane f n r (quad * 4 + t))
 abbrev pub step_of : (turned : Bool) → (columns : ℕ) → ℕ
 step_of false columns = 1
 step_of true columns = columns
+
+-- what the lanes of a quad have, and those of every quad
+abbrev pub LanesOf : ((lane : ℕ) → ℕ → Type 0) → (quad : ℕ) → ℕ → Type 0
+LanesOf P q = Below 4 (λ t. P (q * 4 + t))
+
+abbrev pub EveryLane : ((lane : ℕ) → ℕ → Type 0) → ℕ → Type 0
+EveryLane P = Below 8 (LanesOf P)

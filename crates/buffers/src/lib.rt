@@ -5,10 +5,12 @@ ghost use Rattle.std.specs.Prelude.{◌≡◌, ◌+◌, ◌*◌, ◌<◌, ◌≤
 ghost use Rattle.laws.specs.Fields.{field};
 ghost use Rattle.kinds.specs.Kinds.{lanes, entry_of};
 ghost use Rattle.kinds.specs.Places.{word_within};
-ghost use Rattle.kinds.specs.Rule.{rows_of, columns_of};
-ghost use Rattle.kinds.specs.Workers.{Laid};
+ghost use Rattle.kinds.specs.Rule.{columns_of};
+ghost use Rattle.kinds.specs.Laid.{Laid};
 ghost use Rattle.buffers.specs.Buffers.{words_needed};
 ghost use Rattle.buffers.specs.Stretches.{size_of, abreast_in, stretches_of, holding_of, place_at, step_of};
+
+pub mod walk;
 
 use kinds::{Element, Entry, Kind, Lane, Layout, Spot};
 
@@ -75,99 +77,75 @@ pub fn field_of(word: u64, bits: usize, j: usize) -> u64
     (word >> bit.0) % (1 << bits)
 }
 
-// The rows and the columns of a layout's matrix.
-pub fn rows_in(f: Layout) -> usize
-    requires { Laid f }
-    ensures is { result ≡ rows_of f }
-    ensures small { result ≤ 256 }
-{
-    if f.turned {
-        return f.spans * Lane::QUAD * f.side;
+impl Stretch {
+    // The step from an element of a stretch to the next.
+    pub fn step(f: &Layout) -> usize
+        ensures is { result ≡ step_of f.now.turned (columns_of f.now) }
+        ensures small { result ≤ 256 }
+    {
+        if f.turned {
+            return f.columns();
+        }
+        1
     }
-    f.halves * 8
-}
 
-pub fn columns_in(f: Layout) -> usize
-    requires { Laid f }
-    ensures is { result ≡ columns_of f }
-    ensures small { result ≤ 256 }
-{
-    if f.turned {
-        return f.halves * 8;
+    // The stretches that stand side by side.
+    fn abreast(f: &Layout) -> usize
+        ensures is { result ≡ abreast_in f.now }
+        ensures few { (0 < result) × (result ≤ 2) }
+    {
+        if f.bits < 32 {
+            return 1;
+        }
+        f.side
     }
-    f.spans * Lane::QUAD * f.side
-}
 
-// The step from an element of a stretch to the next.
-pub fn step_of(f: Layout) -> usize
-    requires { Laid f }
-    ensures is { result ≡ step_of f.turned (columns_of f) }
-    ensures small { result ≤ 256 }
-{
-    if f.turned {
-        return columns_in(f);
+    // The stretches of a lane.
+    pub fn count(f: &Layout) -> usize
+        ensures is { result ≡ stretches_of f.now }
+        ensures laid { Laid f.now }
+    {
+        f.spans * f.halves * Stretch::abreast(f)
     }
-    1
-}
 
-// The stretches that stand side by side.
-fn abreast(f: Layout) -> usize
-    requires { Laid f }
-    ensures is { result ≡ abreast_in f }
-    ensures few { (0 < result) × (result ≤ 2) }
-{
-    if f.bits < 32 {
-        return 1;
+    // The elements of a stretch.
+    fn size(f: &Layout) -> usize
+        ensures is { result ≡ size_of f.now }
+        ensures few { result ≤ 32 }
+    {
+        if f.bits < 32 {
+            return f.side;
+        }
+        1
     }
-    f.side
-}
 
-// The stretches of a lane.
-pub fn stretches_in(f: Layout) -> usize
-    requires { Laid f }
-    ensures { result ≡ stretches_of f }
-{
-    f.spans * f.halves * abreast(f)
-}
-
-// The elements of a stretch.
-fn size_of(f: Layout) -> usize
-    requires { Laid f }
-    ensures is { result ≡ size_of f }
-    ensures few { result ≤ 32 }
-{
-    if f.bits < 32 {
-        return f.side;
+    // The word of its lane in which the stretch starts.
+    pub fn word(self, f: &Layout) -> usize
+        requires { self.0 < stretches_of f.now }
+        ensures is { result ≡ word_within f.now.bits (self.0 * size_of f.now) }
+        ensures within { result + holding_of f.now ≤ f.now.words }
+    {
+        let bits = f.bits;
+        let first = self.0 * Stretch::size(f);
+        Spot::of(bits, Element(first as u32)).word.0 as usize
     }
-    1
-}
 
-// The word of its lane in which a stretch starts.
-pub fn word_of(f: Layout, stretch: Stretch) -> usize
-    requires { Laid f × (stretch.0 < stretches_of f) }
-    ensures is { result ≡ word_within f.bits (stretch.0 * size_of f) }
-    ensures within { result + holding_of f ≤ f.words }
-{
-    let first = stretch.0 * size_of(f);
-    let word = Spot::of(f.bits, Element(first as u32)).word;
-    word.0 as usize
-}
-
-// The index of the first place of a stretch.
-pub fn base_of(f: Layout, stretch: Stretch, lane: Lane) -> usize
-    requires { Laid f × (stretch.0 < stretches_of f) × (lane.0 < lanes) }
-    ensures is { result ≡ place_at f lane.0 (stretch.0 * size_of f) }
-    ensures small { result < 262144 }
-{
-    let columns = columns_in(f);
-    let l = lane.0 as usize;
-    let by = abreast(f);
-    let group = kinds::rule::quotient(by, stretch.0);
-    let x = kinds::rule::remainder(f.halves, group) * 8 + l / Lane::QUAD;
-    let y = (kinds::rule::quotient(f.halves, group) * Lane::QUAD + l % Lane::QUAD) * f.side
-        + kinds::rule::remainder(by, stretch.0);
-    if f.turned {
-        return y * columns + x;
+    // The index of its first place.
+    pub fn base(self, f: &Layout, lane: Lane) -> usize
+        requires { (self.0 < stretches_of f.now) × (lane.0 < lanes) }
+        ensures is { result ≡ place_at f.now lane.0 (self.0 * size_of f.now) }
+        ensures small { result < 262144 }
+    {
+        let columns = f.columns();
+        let l = lane.0 as usize;
+        let by = Stretch::abreast(f);
+        let group = kinds::rule::quotient(by, self.0);
+        let x = kinds::rule::remainder(f.halves, group) * 8 + l / Lane::QUAD;
+        let y = (kinds::rule::quotient(f.halves, group) * Lane::QUAD + l % Lane::QUAD) * f.side
+            + kinds::rule::remainder(by, self.0);
+        if f.turned {
+            return y * columns + x;
+        }
+        x * columns + y
     }
-    x * columns + y
 }

@@ -13,8 +13,9 @@ use Rattle.answers.proofs.Shows.{goes_on, came_on}
 use Rattle.answers.proofs.Demand1.{reply_is}
 use Rattle.kinds.specs.Kinds.{Legal}
 use Rattle.kinds.specs.Refusals.{layout_refusals}
-use Rattle.kinds.specs.Workers.{layout_call, Laid}
-use Rattle.kinds.specs.declared.Layout.{Layout}
+use Rattle.kinds.specs.Rule.{Layout}
+use Rattle.kinds.specs.Laid.{Laid}
+use Rattle.kinds.specs.Workers.{layout_call}
 use Rattle.kinds.proofs.Table.{layout_at, sane}
 
 module _ (k r : ℕ) where

@@ -1,6 +1,6 @@
 -- What holds of every line of the kinds table and every role, by tests that antt computes over the whole table. Assumes nothing.
 use Rattle.std.proofs.Common.{if◌then◌else◌}
-use mathlib.Core.Path.{◌≡◌, sym, ap, ◌∙◌}
+use mathlib.Core.Path.{◌≡◌, sym, ap, subst, ◌∙◌}
 use mathlib.Core.Bool.{Bool, true, false, not, ◌||◌, false≢true}
 use Prim.Native.Nat.{ℕ, ◌-◌, ◌*◌, ◌/◌, ◌<◌, ◌≤◌}
 use native.Mathlib.Omega.{arith}
@@ -14,11 +14,12 @@ use Rattle.laws.proofs.Lists.{get_d_any}
 use Rattle.answers.specs.Tests.{within, Says, holds}
 use Rattle.answers.proofs.Words.{says}
 use Rattle.kinds.specs.Kinds.{kinds, roles, line, table, named, line_at, entry_of, role_of, KnownRole, rows, columns, bits, words, elements, word_bits, bits_at, columns_at, elements_at, rows_at, words_at, one_bit_element, one_bit, integer, Legal}
-use Rattle.kinds.specs.Rule.{side_of, layout_of, elements_of, majors, minors, rows_of, columns_of, turn}
-use Rattle.kinds.specs.Workers.{LineAt, Laid}
+use Rattle.kinds.specs.Rule.{Layout, shape, side_of, layout_of, elements_of, majors, minors, rows_of, columns_of, turn}
+use Rattle.kinds.specs.Laid.{Laid}
+use Rattle.kinds.specs.Workers.{LineAt}
 use Rattle.kinds.specs.declared.Sided.{Sided}
 use Rattle.kinds.specs.declared.Entry.{Entry}
-use Rattle.kinds.specs.declared.Layout.{Layout}
+use Rattle.kinds.specs.declared.Layout.TheInside.{Inside}
 
 abbrev pub layout_at : ℕ → ℕ → Layout
 layout_at k r = layout_of (entry_of k) (role_of r)
@@ -132,3 +133,12 @@ module _ (k r : ℕ) (ok : Legal k r) where
     narrow_side = narrow_side;
     wide_side = wide_side;
   }
+
+-- the same of a line that is a kind's
+pub sane_in : (k r : ℕ) (e : Entry) → e ≡ entry_of k → 1 ≤ k → k ≤ kinds → r ≤ 2 → Laid (layout_of e (role_of r))
+sane_in k r e is low high role =
+    subst (λ (e : Entry). Laid (layout_of e (role_of r))) (sym is) (sane k r (record { low = low; high = high; role = role }))
+
+-- a layout by its fields
+abbrev pub by_fields : Inside → Layout
+by_fields a = shape a.bits a.words a.side a.halves a.spans a.turned

@@ -3,11 +3,10 @@ use Rattle.std.specs.Prelude.{ℕ, zero, suc, ◌*◌, ◌/◌, ◌<◌, ◌≤�
 use Rattle.laws.specs.Choice.{◌=?◌, NoneBelow}
 use Rattle.answers.specs.Calls.{Call}
 use Rattle.kinds.specs.Kinds.{kinds, table, role_a, role_b, role_c, word_bits, entry_of, role_of}
-use Rattle.kinds.specs.Rule.{side_of, layout_of}
+use Rattle.kinds.specs.Rule.{Layout, side_of, layout_of}
 use Rattle.kinds.specs.Refusals.{layout_refusals}
 use Rattle.kinds.specs.declared.Line.{Line}
 use Rattle.kinds.specs.declared.Sided.{Sided}
-use Rattle.kinds.specs.declared.Layout.{Layout}
 use Rattle.kinds.specs.declared.Layouts.{Layouts}
 
 -- where a line stands among some, by its m, its k and its element, or how many they are if it is none of them
@@ -31,30 +30,3 @@ layout_call k r = record { refusals = layout_refusals k r; gives = layout_of (en
 
 abbrev pub layouts_of : (kind : ℕ) → Layouts
 layouts_of k = record { a = layout_of (entry_of k) role_a; b = layout_of (entry_of k) role_b; c = layout_of (entry_of k) role_c }
-
--- a width at which elements fill words evenly, or a word's double
-pub record Width (b : ℕ) : Type 0 where
-  pub pos : 0 < b
-  pub le : b ≤ 64
-  pub narrow : (b ≡ 64 → ⊥) → b * (word_bits / b) ≡ word_bits
-
--- what the numbers of every layout of the table have
-pub record Sane (bits words side halves spans : ℕ) : Type 0 where
-  pub width : Width bits
-  pub words_pos : 0 < words
-  pub words_le : words ≤ 8
-  pub side_pos : 0 < side
-  pub side_le : side ≤ 32
-  pub halves_pos : 0 < halves
-  pub halves_le : halves ≤ 2
-  pub spans_pos : 0 < spans
-  pub spans_le : spans ≤ 2
-  pub groups_le : spans * halves ≤ 4
-  pub elements_le : spans * halves * side ≤ 128
-  pub minors_le : spans * 4 * side ≤ 256
-  pub full : bits * (spans * halves * side) ≡ word_bits * words
-  pub narrow_side : bits < word_bits → side ≡ word_bits / bits
-  pub wide_side : word_bits ≤ bits → side ≤ 2
-
-abbrev pub Laid : Layout → Type 0
-Laid f = Sane f.bits f.words f.side f.halves f.spans

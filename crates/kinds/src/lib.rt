@@ -6,10 +6,12 @@ ghost use Rattle.answers.specs.Refusals.{told};
 ghost use Rattle.answers.specs.Promised.{Replies};
 ghost use Rattle.kinds.specs.Kinds.{kinds, sum_bits, entry_of, role_of};
 ghost use Rattle.kinds.specs.Places.{word_within, lowest_bit};
-ghost use Rattle.kinds.specs.Rule.{spread, side_of, layout_of};
-ghost use Rattle.kinds.specs.Workers.{LineAt, layout_call, layouts_of, Laid};
+ghost use Rattle.kinds.specs.Rule.{spread, side_of, layout_of, rows_of, columns_of};
+ghost use Rattle.kinds.specs.Laid.{Laid};
+ghost use Rattle.kinds.specs.Workers.{LineAt, layout_call, layouts_of};
 
 use answers::Refusal;
+use std::marker::Model;
 
 pub mod rule;
 
@@ -209,10 +211,23 @@ pub struct Layout {
     pub turned: bool,
 }
 
+impl Model for Layout {
+    ghost use Rattle.kinds.specs.Rule.{Layout, shape};
+    ghost use Rattle.kinds.specs.Laid.{Sane};
+
+    ghost Value = { Layout };
+
+    ghost view = { λ a. shape a.bits a.words a.side a.halves a.spans a.turned };
+
+    ghost invariant = { λ a. Sane a.bits a.words a.side a.halves a.spans };
+
+    ghost inverse = { λ a. record { bits = a.bits; words = a.words; side = a.side; halves = a.halves; spans = a.spans; turned = a.turned } };
+}
+
 impl Layout {
     // The layout whose matrix has so many major and minor numbers.
     fn new(bits: u16, words: u16, side: u16, majors: u16, minors: u16, turned: bool) -> Layout
-        requires { 0 < side }
+        requires { Laid (spread bits words side majors minors turned) }
         ensures { result ≡ spread bits words side majors minors turned }
     {
         Layout {
@@ -236,7 +251,7 @@ fn side_of(kind: Kind) -> u16
 }
 
 fn layout_in(e: Entry, side: u16, role: Role) -> Layout
-    requires { (0 < side) × (side ≡ side_of e.bits) × (role.0 ≤ 2) }
+    requires { (side ≡ side_of e.bits) × (role.0 ≤ 2) × Laid (layout_of e (role_of role.0)) }
     ensures { result ≡ layout_of e (role_of role.0) }
 {
     let r = role.0;
@@ -254,11 +269,33 @@ impl Layout {
     pub fn of(kind: Kind, role: Role) -> Layout
         requires { (1 ≤ kind.0) × (kind.0 ≤ kinds) × (role.0 ≤ 2) }
         ensures is { result ≡ layout_of (entry_of kind.0) (role_of role.0) }
-        ensures laid { Laid result }
     {
         let e = Entry::of(kind);
         let side = side_of(kind);
         layout_in(e, side, role)
+    }
+}
+
+impl Layout {
+    // The rows and the columns of the matrix.
+    pub fn rows(&self) -> usize
+        ensures is { result ≡ rows_of self.now }
+        ensures small { result ≤ 256 }
+    {
+        if self.turned {
+            return self.spans * Lane::QUAD * self.side;
+        }
+        self.halves * 8
+    }
+
+    pub fn columns(&self) -> usize
+        ensures is { result ≡ columns_of self.now }
+        ensures small { result ≤ 256 }
+    {
+        if self.turned {
+            return self.halves * 8;
+        }
+        self.spans * Lane::QUAD * self.side
     }
 }
 

@@ -2,14 +2,13 @@
 #![tactic(auto)]
 
 ghost use Rattle.std.specs.Prelude.{◌≡◌, ◌<◌, ◌≤◌, length};
-ghost use Rattle.kinds.specs.Workers.{Laid};
 ghost use Rattle.answers.specs.Tests.{first_of};
 ghost use Rattle.answers.specs.Promised.{Meets};
 ghost use Rattle.pack.specs.Workers.{pack_call_in};
 ghost use Rattle.pack.specs.PackCall.{too_wide, pack_call};
 
-use answers::{Refusal, Verdict};
-use kinds::{Kind, Known, Lane, Layout, Role};
+use answers::Refusal;
+use kinds::{Kind, Lane, Layout, Role};
 
 // The index of the first entry that doesn't fit, or the length.
 fn first_wide(matrix: &[u64], bits: usize) -> usize
@@ -27,36 +26,29 @@ fn first_wide(matrix: &[u64], bits: usize) -> usize
     i
 }
 
-fn pack_in(f: Layout, matrix: &[u64], words: &mut [u32]) -> Verdict
-    requires { Laid f }
-    ensures { Meets (pack_call_in f matrix.now words.old) words.old result
+fn pack_in(f: &Layout, matrix: &[u64], words: &mut [u32]) -> Result<(), Refusal>
+    ensures { Meets (pack_call_in f.now matrix.now words.old) words.old result
         words.new }
 {
-    let each = f.words;
-    let bits = f.bits;
-    let rows = buffers::rows_in(f);
-    let columns = buffers::columns_in(f);
-    if matrix.len() != rows * columns {
-        return Verdict::Refused(Refusal::WrongLength(0));
+    if matrix.len() != f.rows() * f.columns() {
+        return Err(Refusal::WrongLength(0));
     }
-    if words.len() != Lane::COUNT * each {
-        return Verdict::Refused(Refusal::WrongLength(1));
+    if words.len() != Lane::COUNT * f.words {
+        return Err(Refusal::WrongLength(1));
     }
-    let wide = first_wide(matrix, bits);
+    let wide = first_wide(matrix, f.bits);
     if wide < matrix.len() {
-        return Verdict::Refused(Refusal::TooWide(wide as u32));
+        return Err(Refusal::TooWide(wide as u32));
     }
     pack_lanes::fill_words(matrix, words, f);
-    Verdict::Accepted
+    Ok(())
 }
 
 // The row-major matrix of bit patterns to lane words.
-pub fn pack(kind: Kind, role: Role, matrix: &[u64], words: &mut [u32]) -> Verdict
+pub fn pack(kind: Kind, role: Role, matrix: &[u64], words: &mut [u32]) -> Result<(), Refusal>
     ensures { Meets (pack_call kind.0 role.0 matrix.now words.old)
         words.old result words.new }
 {
-    match kinds::layout_of(kind, role) {
-        Known::As(f) => pack_in(f, matrix, words),
-        Known::Refused(x) => Verdict::Refused(x),
-    }
+    let f = kinds::layout_of(kind, role)?;
+    pack_in(&f, matrix, words)
 }

@@ -1,1 +1,1 @@
-pub mod Workers
+pub mod Numbers

@@ -2,17 +2,17 @@
 #![tactic(auto)]
 
 ghost use Rattle.std.specs.Prelude.{◌≡◌, ℕ, ◌+◌, ◌*◌, ◌^◌, ◌<◌, ◌≤◌, length, get_or};
-ghost use Rattle.laws.specs.Fields.{joined};
-ghost use Rattle.laws.specs.Toward.{stores, Brings, Below};
+ghost use Rattle.laws.specs.Fields.{field, joined};
+ghost use Rattle.laws.specs.Toward.{stores};
 ghost use Rattle.kinds.specs.Kinds.{lanes};
 ghost use Rattle.kinds.specs.Rule.{rows_of, columns_of};
-ghost use Rattle.kinds.specs.Workers.{Laid};
-ghost use Rattle.buffers.specs.Buffers.{word_at, packed, Fitting};
-ghost use Rattle.buffers.specs.Stretches.{stretches_of, holding_of, WordsOfQuad};
-ghost use Rattle.pack_lanes.specs.Workers.{Packs};
+ghost use Rattle.buffers.specs.Buffers.{packed, Fitting};
+ghost use Rattle.pack_lanes.specs.Numbers.{Numbers};
+ghost use Rattle.buffers.specs.Stretches.{holding, holding_of, stretches_of, WordsOfLane};
 
-use buffers::{Quad, Stretch};
-use kinds::{Element, Lane, Layout, Spot};
+use buffers::Stretch;
+use buffers::walk::{self, Filling};
+use kinds::{Lane, Layout};
 
 // The number whose fields are so many entries from base on, step apart.
 fn gather(matrix: &[u64], bits: usize, base: usize, step: usize, count: usize) -> u64
@@ -21,68 +21,80 @@ fn gather(matrix: &[u64], bits: usize, base: usize, step: usize, count: usize) -
     ensures is { result ≡ joined bits count (λ j. get_or matrix.now (base + j * step) 0) }
     ensures small { result < 2 ^ 32 }
 {
-    let mut sum: u64 = 0;
-    let mut j = 0;
-    while j < count {
-        let bit = Spot::of(bits, Element(j as u32)).bit;
-        sum = (matrix[base + j * step] << bit.0) + sum;
-        j += 1;
+    let mut sum = 0;
+    for j in (0..count).rev() {
+        sum = (sum << bits) + matrix[base + j * step];
     }
     sum
 }
 
-// The words of a lane that hold one stretch, into the lane's own part of the buffer: the fields of a word, or one element, which takes a
-// word or two, the low half first.
-fn write_lane(matrix: &[u64], part: &mut [u32], f: Layout, stretch: Stretch, lane: Lane)
-    requires laid { Laid f × Fitting f.bits matrix.now × (length matrix.now ≡ rows_of f * columns_of f) ×
-        (length part.old ≡ f.words) }
-    requires stretch_bound { (stretch.0 < stretches_of f) × (lane.0 < lanes) }
-    ensures { part.new ≡ stores (stretch.0 * holding_of f) 1 (holding_of f)
-        (λ k. word_at f matrix.now lane.0 (stretch.0 * holding_of f + k)) part.old }
+// A number into word k, or for 64 bits into it and the next, the low half first.
+fn put(words: &mut [u32], value: u64, bits: usize, k: usize)
+    requires { (k < 256) × (k + holding bits ≤ length words.old) }
+    ensures { words.new ≡ stores k 1 (holding bits) (λ j. field 32 j value) words.old }
 {
-    let base = buffers::base_of(f, stretch, lane);
-    let k = buffers::word_of(f, stretch);
-    if f.bits < 32 {
-        let step = buffers::step_of(f);
-        part[k] = gather(matrix, f.bits, base, step, f.side) as u32;
-        return;
-    }
-    let element = matrix[base];
-    part[k] = (element % 4294967296) as u32;
-    if f.bits == 64 {
-        part[k + 1] = (element / 4294967296) as u32;
+    words[k] = (value % 4294967296) as u32;
+    if bits == 64 {
+        words[k + 1] = (value / 4294967296) as u32;
     }
 }
 
-// The same stretch of a quad's lanes, and of every quad's.
-fn put_quad(matrix: &[u64], words: &mut [u32], f: Layout, stretch: Stretch, quad: Quad)
-    requires { Packs f matrix.now words.old × (stretch.0 < stretches_of f) × (quad.0 < 8) }
-    ensures { Brings (packed f matrix.now) (WordsOfQuad f (holding_of f) stretch.0 quad.0)
-        words.old words.new }
-{
-    for t in 0..Lane::QUAD {
-        let lane = quad.lane(t);
-        let at = lane.0 as usize * f.words;
-        let end = at + f.words;
-        write_lane(matrix, &mut words[at..end], f, stretch, lane);
+// A matrix that a layout packs.
+#[derive(Clone, Copy)]
+struct Packing<'a> {
+    matrix: &'a [u64],
+    layout: &'a Layout,
+    ghost whole: { length matrix.now ≡ rows_of layout.now * columns_of layout.now },
+    ghost fitting: { Fitting layout.now.bits matrix.now },
+}
+
+impl Packing<'_> {
+    // The entries of a lane's stretch as the number whose fields are its words: as many as a word holds, or one.
+    fn number(&self, stretch: Stretch, lane: Lane) -> u64
+        requires { (stretch.0 < stretches_of self.now.layout.now) × (lane.0 < lanes) }
+        ensures { Numbers self.now.layout.now self.now.matrix.now stretch.0 lane.0 result }
+    {
+        let f = self.layout;
+        let base = stretch.base(f, lane);
+        if f.bits < 32 {
+            return gather(self.matrix, f.bits, base, Stretch::step(f), f.side);
+        }
+        self.matrix[base]
     }
 }
 
-fn put_quads(matrix: &[u64], words: &mut [u32], f: Layout, stretch: Stretch)
-    requires { Packs f matrix.now words.old × (stretch.0 < stretches_of f) }
-    ensures { Brings (packed f matrix.now) (Below 8 (WordsOfQuad f (holding_of f) stretch.0))
-        words.old words.new }
-{
-    for quad in 0..Quad::COUNT {
-        put_quad(matrix, words, f, stretch, Quad(quad));
+impl Filling for Packing<'_> {
+    ghost use Rattle.buffers.proofs.Round.{packed_length};
+    ghost use Rattle.buffers.proofs.Stretches.{word_covered};
+
+    type Item = u32;
+
+    ghost layout = { λ s. s.layout.now };
+
+    ghost target = { λ s. packed s.layout.now s.matrix.now };
+
+    ghost held = { λ xs. xs };
+
+    ghost Part = { λ s. WordsOfLane s.layout.now (holding_of s.layout.now) };
+
+    ghost covers = { λ s laid x h. word_covered s.layout.now laid x (rw (packed_length s.layout.now s.matrix.now) at h) };
+
+    fn layout(&self) -> &Layout {
+        self.layout
+    }
+
+    fn fill_lane(&self, words: &mut [u32], stretch: Stretch, lane: Lane) {
+        let f = self.layout;
+        let k = lane.0 as usize * f.words + stretch.word(f);
+        put(words, self.number(stretch, lane), f.bits, k);
     }
 }
 
-pub fn fill_words(matrix: &[u64], words: &mut [u32], f: Layout)
-    requires { Packs f matrix.now words.old }
-    ensures { words.new ≡ packed f matrix.now }
+// Lane words filled from a matrix.
+pub fn fill_words(matrix: &[u64], words: &mut [u32], f: &Layout)
+    requires { Fitting f.now.bits matrix.now × (length matrix.now ≡ rows_of f.now * columns_of f.now) ×
+        (length words.old ≡ lanes * f.now.words) }
+    ensures { words.new ≡ packed f.now matrix.now }
 {
-    for stretch in 0..buffers::stretches_in(f) {
-        put_quads(matrix, words, f, Stretch(stretch));
-    }
+    walk::fill(&Packing { matrix, layout: f }, words);
 }

@@ -15,13 +15,13 @@ use Rattle.answers.specs.declared.Refusal.{Refusal}
 use Rattle.answers.proofs.Shows as shows
 use Rattle.kinds.specs.Kinds.{lanes, kind_of, role_of, bits_at, columns_at, elements_at, rows_at, Legal}
 use Rattle.kinds.specs.Places.{place_of, word_within, lowest_bit, Place, with_word_and_bit}
-use Rattle.kinds.specs.Rule.{elements_of, majors, minors, turn, place_in, holder_in, holder_of, major, minor, lane_of, element_of}
+use Rattle.kinds.specs.Rule.{Layout, elements_of, majors, minors, turn, place_in, holder_in, holder_of, major, minor, lane_of, element_of}
 use Rattle.kinds.specs.Refusals.{unknown_kind, unknown_role}
 use Rattle.places.specs.PlaceCalls.{element_outside, entry_outside}
 use Rattle.places.specs.PlaceCalls.{find_call, place_answer, find_answer}
-use Rattle.kinds.specs.Workers.{layout_call, Laid}
+use Rattle.kinds.specs.Laid.{Laid}
+use Rattle.kinds.specs.Workers.{layout_call}
 use Rattle.places.specs.Workers.{place_call_in, find_call_in}
-use Rattle.kinds.specs.declared.Layout.{Layout}
 use Rattle.std.specs.Prelude.{Result, Ok, Err}
 use Rattle.kinds.proofs.Digits.{lane_back, element_back, major_back, minor_back, major_lt, minor_lt, lane_lt, element_lt}
 use Rattle.kinds.proofs.Table.{layout_at, bits_are, elements_are, majors_are, minors_are}

@@ -14,9 +14,8 @@ use Rattle.answers.specs.Tests.{Test, holds}
 use Rattle.answers.specs.Right.{Denies}
 use Rattle.answers.specs.Promised.{Tells}
 use Rattle.answers.proofs.Shows.{tells_is, denied}
-use Rattle.kinds.specs.Rule.{elements_of, minors}
-use Rattle.kinds.specs.Workers.{Laid}
-use Rattle.kinds.specs.declared.Layout.{Layout}
+use Rattle.kinds.specs.Rule.{Layout, elements_of, minors}
+use Rattle.kinds.specs.Laid.{Laid}
 
 -- the test's answer is the call's
 module _ {X : Type 0} {t : Test} {b : Bool} (told : Tells t b) where

@@ -3,8 +3,7 @@ use Rattle.std.specs.Prelude.{ℕ, [], ◌∷◌}
 use Rattle.answers.specs.Tests.{Test, is, both}
 use Rattle.answers.specs.Calls.{◌when◌, Call}
 use Rattle.kinds.specs.Places.{Place, with_word_and_bit}
-use Rattle.kinds.specs.Rule.{elements_of, majors, minors, place_in, holder_in}
-use Rattle.kinds.specs.declared.Layout.{Layout}
+use Rattle.kinds.specs.Rule.{Layout, elements_of, majors, minors, place_in, holder_in}
 use Rattle.places.specs.PlaceCalls.{element_outside, entry_outside}
 
 -- place and the reverse question in a layout, the latter by its major and minor number

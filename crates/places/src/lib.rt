@@ -5,7 +5,6 @@ ghost use Rattle.std.specs.Prelude.{◌≡◌, ◌<◌};
 ghost use Rattle.answers.specs.Promised.{Tells, Replies};
 ghost use Rattle.kinds.specs.Places.{word_within, lowest_bit};
 ghost use Rattle.kinds.specs.Rule.{elements_of, majors, minors, element_of};
-ghost use Rattle.kinds.specs.Workers.{Laid};
 ghost use Rattle.places.specs.PlaceCalls.{told_place, told_holder, element_outside, entry_outside, place_call, find_call};
 ghost use Rattle.places.specs.Workers.{place_call_in, find_call_in, tabled};
 
@@ -30,16 +29,14 @@ pub struct Held {
 
 // Whether a lane or an element is past the last. The bits of a lane's words, which the table has, tell the elements: the spans would have to be
 // worked out.
-fn element_outside(f: Layout, lane: Lane, element: Element) -> bool
-    requires { Laid f }
-    ensures { Tells (element_outside (elements_of f) lane.0 element.0) result }
+fn element_outside(f: &Layout, lane: Lane, element: Element) -> bool
+    ensures { Tells (element_outside (elements_of f.now) lane.0 element.0) result }
 {
     Lane::COUNT <= lane.0 as usize || f.words * 32 <= element.0 as usize * f.bits
 }
 
-fn place_in(f: Layout, lane: Lane, element: Element) -> Result<Placed, Refusal>
-    requires { Laid f }
-    ensures { Replies (place_call_in f lane.0 element.0) (told_place result) }
+fn place_in(f: &Layout, lane: Lane, element: Element) -> Result<Placed, Refusal>
+    ensures { Replies (place_call_in f.now lane.0 element.0) (told_place result) }
 {
     if element_outside(f, lane, element) {
         Err(Refusal::Outside)
@@ -100,15 +97,15 @@ pub fn place(kind: Kind, role: Role, lane: Lane, element: Element) -> Result<Pla
         place_by_table(lane, element)
     } else {
         let f = kinds::layout_of(kind, role)?;
-        place_in(f, lane, element)
+        place_in(&f, lane, element)
     }
 }
 
 // The spot of its lane in which the entry at a major number x and a minor number y stands.
-fn spot_at(f: Layout, x: usize, y: usize) -> Spot
-    requires { Laid f × (x < majors f) × (y < minors f) }
-    ensures { (result.element.0 ≡ element_of f.side f.halves x y) × (result.word.0 ≡ word_within f.bits
-        result.element.0) × (result.bit.0 ≡ lowest_bit f.bits result.element.0) }
+fn spot_at(f: &Layout, x: usize, y: usize) -> Spot
+    requires { (x < majors f.now) × (y < minors f.now) }
+    ensures { (result.element.0 ≡ element_of f.now.side f.now.halves x y) × (result.word.0 ≡ word_within f.now.bits
+        result.element.0) × (result.bit.0 ≡ lowest_bit f.now.bits result.element.0) }
 {
     let i = kinds::rule::element_at(f.side, f.halves, x, y) as u32;
     Spot::of(f.bits, Element(i))
@@ -116,16 +113,14 @@ fn spot_at(f: Layout, x: usize, y: usize) -> Spot
 
 // Whether a major or a minor number is past the last. The bits of a warp's words tell the minor numbers: a word of each lane is 1,024 bits,
 // and a minor number takes an element for each major one.
-fn entry_outside(f: Layout, x: u32, y: u32) -> bool
-    requires { Laid f }
-    ensures { Tells (entry_outside (majors f) (minors f) x y) result }
+fn entry_outside(f: &Layout, x: u32, y: u32) -> bool
+    ensures { Tells (entry_outside (majors f.now) (minors f.now) x y) result }
 {
     f.halves * 8 <= x as usize || f.words * 1024 <= y as usize * (f.halves * 8 * f.bits)
 }
 
-fn find_in(f: Layout, x: u32, y: u32) -> Result<Held, Refusal>
-    requires { Laid f }
-    ensures { Replies (find_call_in f (x, y)) (told_holder result) }
+fn find_in(f: &Layout, x: u32, y: u32) -> Result<Held, Refusal>
+    ensures { Replies (find_call_in f.now (x, y)) (told_holder result) }
 {
     if entry_outside(f, x, y) {
         Err(Refusal::Outside)
@@ -163,9 +158,9 @@ pub fn find(kind: Kind, role: Role, row: Row, column: Column) -> Result<Held, Re
     } else {
         let f = kinds::layout_of(kind, role)?;
         if f.turned {
-            find_in(f, column.0, row.0)
+            find_in(&f, column.0, row.0)
         } else {
-            find_in(f, row.0, column.0)
+            find_in(&f, row.0, column.0)
         }
     }
 }

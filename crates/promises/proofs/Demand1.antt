@@ -12,13 +12,12 @@ use native.Mathlib.Omega.{arith}
 use lib.Dec.{T, eqb, eqb→eq}
 use lib.IntN.{ℤ}
 use lib.ListN.{length, get_or}
-use Rattle.answers.specs.Refusals.{Answer, given, refusal, told}
+use Rattle.std.specs.Prelude.{Ok, Err}
+use Rattle.answers.specs.Refusals.{Answer, given, refusal, told, Verdict}
 use Rattle.answers.specs.Tests.{Test, is, either, within, Says, holds, first_of}
 use Rattle.answers.specs.Calls.{Call, order_of, Gives, NoneSays}
 use Rattle.answers.specs.Promised.{Meets, Replies, Coded}
 use Rattle.answers.specs.declared.Refusal.{Refusal}
-use Rattle.answers.specs.declared.Verdict.{Verdict}
-use Rattle.answers.specs.declared.Verdict.TheVariants.{Accepted, Refused}
 use Rattle.answers.proofs.Words.{says}
 use Rattle.answers.proofs.Demand1 as every
 use Rattle.laws.specs.Choice.{◌=?◌}
@@ -44,16 +43,16 @@ module _ {X : Type 0} {call : Call X} (asked : OfBench X call) where
     pub refused_when : (n d : ℕ) → (told verdict ≡ refusal n d) ↔ Gives call.refusals n d
     refused_when = every.verdict_refused_when m
 
-    pub accepted_when : (verdict ≡ Accepted) ↔ NoneSays call.refusals
+    pub accepted_when : (verdict ≡ (Ok tt)) ↔ NoneSays call.refusals
     accepted_when = every.accepted_when m
 
     -- 'a refused call writes no word anywhere, and a refused run comes back as it went in': whatever stood there is left. A refused opening, into
     -- which no run went, leaves the run that is 0 throughout, as document 01 asks.
-    pub refused_leaves : {f : Refusal} → verdict ≡ Refused f → left ≡ old
+    pub refused_leaves : {f : Refusal} → verdict ≡ Err f → left ≡ old
     refused_leaves e = every.refused_leaves m e
 
     -- And an accepted call leaves what the definitions make.
-    pub accepted_leaves : verdict ≡ Accepted → left ≡ call.gives
+    pub accepted_leaves : verdict ≡ (Ok tt) → left ≡ call.gives
     accepted_leaves e = every.accepted_leaves m e
 
   -- The same of place and the reverse question, which give back what they answer.

@@ -1,7 +1,8 @@
 -- A record's parts: what of them a kind uses has room, and has words of 32 bits. Assumes nothing.
-use Rattle.std.proofs.Common.{if◌then◌else◌}
+use Rattle.std.proofs.Common.{if◌then◌else◌, ◌==◌}
+use Rattle.std.specs.List.{list_any}
 use mathlib.Core.Path.{◌≡◌, refl, sym, ap, subst, ◌∙◌}
-use mathlib.Core.Bool.{Bool, true, false}
+use mathlib.Core.Bool.{Bool, true, false, not}
 use mathlib.Core.List.{List, []}
 use Prim.Native.Nat.{ℕ, ◌+◌, ◌*◌, ◌^◌, ◌<◌, ◌≤◌}
 use native.Mathlib.Omega.{arith}
@@ -10,24 +11,24 @@ use lib.Dec.{ltb}
 use lib.ListN.{length, get_or, take, drop, length-take}
 use lib.Seq.{get_or-take, get_or-drop}
 use Rattle.laws.proofs.Lists.{length_tab, get_or_tab}
-use Rattle.answers.specs.Tests.{Says}
+use Rattle.answers.specs.Tests.{Says, differs}
 use Rattle.answers.specs.Refusals.{number_of, detail_of, refused}
 use Rattle.answers.specs.Calls.{first}
 use Rattle.answers.specs.Right.{Passes}
-use Rattle.answers.specs.Promised.{Replies}
+use Rattle.answers.specs.Promised.{Replies, Tells}
 use Rattle.answers.specs.declared.Refusal.{Refusal}
-use Rattle.answers.proofs.Words.{says, says_not}
-use Rattle.answers.proofs.Shows.{passes, first_gives, handed_on}
+use Rattle.answers.proofs.Words.{says, says_not, any_is}
+use Rattle.answers.proofs.Shows.{passes, handed_on, tells}
 use Rattle.answers.proofs.Demand1.{reply_is}
 use Rattle.kinds.specs.declared.Entry.{Entry}
 use Rattle.kinds.specs.Kinds.{entry_of, Arithmetic, one_bit_element, int4_element}
 use Rattle.kinds.proofs.Table.{among_≤}
 use Rattle.buffers.specs.Buffers.{Fitting, words_needed}
 use Rattle.step.specs.Workers.{told_line}
-use Rattle.step.specs.declared.Selected.{Selected}
-use Rattle.step.specs.declared.Selected.TheVariants.{As, Refused as Selected-as-Refused}
+use Rattle.step_work.specs.declared.Selected.{Selected}
+use Rattle.std.specs.Prelude.{Result, Ok, Err}
 use Rattle.step_limit.proofs.Marks.{get_d_past}
-use Rattle.records.specs.Records.{Part, part_a, part_b, part_c, part_d, bytes_of, word_at, words_in, words_used, logged, asks_plain, mode_for, kind_in, record_refusals, record_call}
+use Rattle.records.specs.Records.{Part, part_a, part_b, part_c, part_d, bytes_of, word_at, words_in, words_used, logged, asks_plain, mode_for, kind_in, not_zero, record_refusals, record_call}
 
 -- the words that an arithmetic kind uses stand within their part
 module _ (k : ℕ) (ok : Arithmetic k) where
@@ -84,12 +85,14 @@ for_plain signs mode p = ap (λ (b : Bool). if b then 0 else mode) ((says (asks_
 pub for_own : (signs mode : ℕ) → ¬ Says (asks_plain signs mode) → mode_for signs mode ≡ mode
 for_own signs mode n = ap (λ (b : Bool). if b then 0 else mode) ((says_not (asks_plain signs mode)).1 n)
 
--- what a record's judge told: the line of its kind, where every refusal was passed, or the first that applies
-module _ (bytes : List ℕ) (s : Selected) (told : Replies (record_call bytes) (told_line s)) where
-  pub judged : (line : Entry) → s ≡ As line → Passes (record_refusals bytes) × (line ≡ entry_of (kind_in bytes))
-  judged line e =
-      let is = sym (ap told_line e) ∙ reply_is told in
-      (passes (record_refusals bytes) (entry_of (kind_in bytes)) (sym is), first_gives (record_refusals bytes) (entry_of (kind_in bytes)) is)
+-- what a record's judge told: where every refusal was passed, or the first that applies
+module _ (bytes : List ℕ) (r : Result Selected Refusal) (reply : Replies (record_call bytes) (told_line r)) where
+  pub judged : (s : Selected) → r ≡ Ok s → Passes (record_refusals bytes)
+  judged s e = passes (record_refusals bytes) (entry_of (kind_in bytes)) (sym (sym (ap told_line e) ∙ reply_is reply))
 
-  pub refused_first : {X : Type 0} (gives : X) (x : Refusal) → s ≡ Selected-as-Refused x → refused x ≡ first (record_refusals bytes) gives
-  refused_first gives x e = handed_on (record_refusals bytes) [] (entry_of (kind_in bytes)) gives (number_of x) (detail_of x) (sym (ap told_line e) ∙ reply_is told)
+  pub refused_first : {X : Type 0} (gives : X) (x : Refusal) → r ≡ Err x → refused x ≡ first (record_refusals bytes) gives
+  refused_first gives x e = handed_on (record_refusals bytes) [] (entry_of (kind_in bytes)) gives (number_of x) (detail_of x) (sym (ap told_line e) ∙ reply_is reply)
+
+-- whether a byte is not zero, as a look at each tells
+pub not_zero_told : (bytes : List ℕ) (b : Bool) → b ≡ list_any (λ x. not (x == 0)) bytes → Tells (not_zero bytes) b
+not_zero_told bytes b e = tells (not_zero bytes) b (e ∙ sym (any_is (λ x. not (x == 0)) (λ x. differs x 0) (λ x. refl) bytes))

@@ -1,7 +1,8 @@
 // Step records, as the card's logger writes them: 1,800 bytes with kind, signs, mode, five reserved bytes, then the words of A, B, C and D.
 #![tactic(auto)]
 
-ghost use Rattle.std.specs.Prelude.{◌≡◌, ◌+◌, ◌*◌, ◌^◌, ◌≤◌, length, drop};
+ghost use Rattle.std.specs.Prelude.{◌≡◌, ◌+◌, ◌*◌, ◌^◌, ◌≤◌, length, drop, not, ◌==◌, IfOk};
+ghost use Rattle.std.specs.List.{list_any};
 ghost use Rattle.answers.specs.Promised.{Replies, Tells};
 ghost use Rattle.kinds.specs.Kinds.{entry_of, Arithmetic};
 ghost use Rattle.step.specs.Workers.{told_line};
@@ -10,7 +11,7 @@ ghost use Rattle.records.specs.Records.{record_bytes, kind_in, signs_in, word_at
 use answers::Refusal;
 use buffers::Lengths;
 use kinds::{Entry, Kind, Mode, Signs};
-use step::Selected;
+use step_work::Selected;
 
 // The bytes of a record.
 pub const BYTES: usize = 1800;
@@ -56,10 +57,8 @@ pub fn read_words(bytes: &[u8], words: &mut [u32])
     requires { 4 * length words.old ≤ length bytes.now }
     ensures { words.new ≡ words_in (length words.old) bytes.now }
 {
-    let mut i = 0;
-    while i < words.len() {
+    for i in 0..words.len() {
         words[i] = word_at(bytes, i);
-        i += 1;
     }
 }
 
@@ -78,13 +77,10 @@ impl Header {
     fn mode_for(signs: u32, mode: u32) -> u32
         ensures { result ≡ mode_for signs mode }
     {
-        if signs != 0 {
-            return mode;
+        if signs == 0 && mode == Header::PLAIN {
+            return 0;
         }
-        if mode != Header::PLAIN {
-            return mode;
-        }
-        0
+        mode
     }
 
     pub fn of(record: &[u8]) -> Header
@@ -103,18 +99,18 @@ impl Header {
     }
 }
 
-// Whether one of some bytes is not zero.
+fn any_not_zero(bytes: &[u8]) -> bool
+    ensures { result ≡ list_any (λ b. not (b == 0)) bytes.now }
+{
+    bytes.iter().any(|byte| *byte != 0)
+}
+
+// Whether one of some bytes is not zero, as a test of the refusals.
+#[tactic(auto, using(crate::proofs::Laws::not_zero_told))]
 fn not_zero(bytes: &[u8]) -> bool
     ensures { Tells (not_zero bytes.now) result }
 {
-    let mut i = 0;
-    while i < bytes.len() {
-        if bytes[i] != 0 {
-            return true;
-        }
-        i += 1;
-    }
-    false
+    any_not_zero(bytes)
 }
 
 // Whether the tail of a part is not zero, behind so many words.
@@ -167,15 +163,16 @@ fn unused_not_zero(record: &[u8], kind: Kind) -> bool
     stray_tail(record, kind, line)
 }
 
-// The line of a record's kind, or refusal 11, 1, 3 or 4.
-pub fn judge(record: &[u8]) -> Selected
+// A record's kind and selectors, with the mode that it asks for, or refusal 11, 1, 3 or 4.
+pub fn judge(record: &[u8]) -> Result<Selected, Refusal>
     requires { length «record».now ≡ record_bytes }
-    ensures { Replies (record_call «record».now) (told_line result) }
+    ensures line { Replies (record_call «record».now) (told_line result) }
+    ensures asked { IfOk result (λ s. (s.kind.0 ≡ kind_in «record».now) × (s.signs.0 ≡ signs_in «record».now)
+        × (s.mode.0 ≡ mode_asked «record».now)) }
 {
     let header = Header::of(record);
-    let kind = header.kind;
-    if unused_not_zero(record, kind) {
-        return Selected::Refused(Refusal::UnusedNotZero);
+    if unused_not_zero(record, header.kind) {
+        return Err(Refusal::UnusedNotZero);
     }
-    step::select(kind, header.signs, header.mode)
+    step::select(header.kind, header.signs, header.mode)
 }

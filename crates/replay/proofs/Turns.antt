@@ -1,9 +1,9 @@
 -- The bytes of a turn behind those that were kept, what is kept of both, and the lines of a file turn by turn. Assumes nothing.
-use Rattle.std.proofs.Common.{◌≡◌, ℕ, ◌+◌, ◌-◌, ◌/◌, ◌%◌, ◌^◌, ◌<◌, ◌≤◌, List, [], ◌∷◌, ◌++◌, None, Some, IfSome, arith, sym, ap, ap₂, subst, ◌∙◌, append_assoc, length, take, drop, length-append, length-drop, length-take-le, take-append-drop}
+use Rattle.std.proofs.Common.{◌≡◌, ℕ, ◌+◌, ◌-◌, ◌/◌, ◌%◌, ◌≤◌, List, ◌++◌, arith, sym, ap, ap₂, subst, ◌∙◌, append_assoc, length, take, drop, length-append, length-drop, length-take-le, take-append-drop}
 use Rattle.std.proofs.lemmas.List.{drop-take}
 use lib.Seq.{take-add, drop-append-add}
 use Rattle.std.specs.declared.option.Option.{Option}
-use Rattle.std.specs.Io.KnownBytes.{Appends, Consumes, IsAtEnd}
+use Rattle.std.specs.Io.KnownBytes.{Appends}
 use Rattle.std.proofs.KnownBytes.{Appends-trans}
 use Rattle.records.specs.Records.{record_bytes}
 use Rattle.replay_text.specs.Text.{printed, printed_from}
@@ -13,8 +13,9 @@ use Rattle.stream.proofs.Kept.{kept_front}
 use Rattle.replay.specs.Turns.{begun, part_of}
 
 -- what was kept, and what came behind it
-pub held_is : (at n : ℕ) (old new : List ℕ) → take at new ≡ take at old → take at old ++ take n (drop at new) ≡ take (at + n) new
-held_is at n old new same = sym (take-add at n new ∙ ap (λ (l : List ℕ). l ++ take n (drop at new)) same)
+pub held_is : (at held : ℕ) (old new : List ℕ) → at ≤ held → take at new ≡ take at old → take at old ++ take (held - at) (drop at new) ≡ take held new
+held_is at held old new more same =
+    ap (λ (l : List ℕ). l ++ take (held - at) (drop at new)) (sym same) ∙ sym (take-add at (held - at) new) ∙ ap (λ (m : ℕ). take m new) (omega arith)
 
 -- what is moved to the start is the part of a record
 pub kept_is : (held : ℕ) (new : List ℕ) → held ≤ length new
@@ -71,11 +72,3 @@ module _ (file more : List ℕ) where
 
     pub kept_more : (after : List ℕ) → after ≡ part_of (begun come input ++ more) → after ≡ part_of (file ++ more)
     kept_more after e = e ∙ ap (λ (l : List ℕ). part_of (l ++ more)) kept ∙ part_more
-
--- nothing came, and nothing was left
-pub all_came : (a b : Option (List ℕ)) (file more : List ℕ) (P : List ℕ → Type 0) → Consumes a b file → IsAtEnd b → length more ≡ 0 → P (file ++ more)
-    → IfSome a (λ all. length all < 2 ^ 63 → P all)
-all_came None b file more P c e n h = tt
-all_came (Some x) None file more P c e n h = absurd c
-all_came (Some x) (Some y) file [] P c e n h = λ few. subst P (ap (λ (l : List ℕ). file ++ l) (sym e) ∙ sym c) h
-all_came (Some x) (Some y) file (z ∷ more) P c e n h = absurd (omega arith)

@@ -2,7 +2,7 @@
 // which bytes is `replay_text::put_lines`; here bytes are only moved, and what fails is said on standard error.
 #![tactic(auto)]
 
-ghost use Rattle.std.specs.Prelude.{◌≡◌, ℕ, ◌+◌, ◌/◌, ◌^◌, ◌<◌, ◌≤◌, List, ◌++◌, length, IfSome, IfOk, OnOk};
+ghost use Rattle.std.specs.Prelude.{◌≡◌, ℕ, ◌+◌, ◌/◌, ◌^◌, ◌<◌, ◌≤◌, List, [], ◌++◌, length, IfSome, IsNone, IfOk, OnOk};
 ghost use Rattle.std.specs.Io.KnownBytes.{Appends, Consumes, IsAtEnd};
 ghost use Rattle.records.specs.Records.{record_bytes};
 ghost use Rattle.replay_text.specs.Text.{printed, printed_from};
@@ -11,47 +11,43 @@ ghost use Rattle.replay.specs.Turns.{begun, part_of};
 use std::io;
 use std::io::{Read, Write};
 use std::process::ExitCode;
-use stream::Source;
+use stream::{Failed, Named};
+
+// The bytes that a turn has room for.
+const ROOM: usize = 36 * records::BYTES;
 
 // A number of bytes that no input has, since a proved loop has to end.
-const NEVER: u64 = 9223372036854775808;
+const NEVER: u64 = 1 << 63;
 
-// What ended the program before its input did.
-#[derive(Drop)]
-enum Failed {
-    Input(io::Error),
-    Output(io::Error),
-}
-
-// One read and its lines, where so many bytes came before; the answer is how many came now, or 0 where it is over. The bytes of a record that
+// One read and its lines, where so many bytes came before; the answer is how many came now, or none where it is over. The bytes of a record that
 // has begun stand at the start of `input`, before and after.
 fn turn<R: Read, W: Write>(
     out: &mut W,
     from: &mut R,
-    input: &mut [u8],
+    input: &mut [u8; ROOM],
     come: u64,
-) -> Result<usize, Failed>
-    requires { (length input.old ≡ 64800) × (come < 2 ^ 63) }
-    ensures few { IfOk result (λ n. n ≤ 64800) }
-    ensures lines { IfOk result (λ n. (bytes : List ℕ) × (length bytes ≡ n)
+) -> Result<Option<usize>, Failed>
+    requires { come < 2 ^ 63 }
+    ensures few { IfOk result (λ came. IfSome came (λ n. (0 < n) × (n ≤ ROOM))) }
+    ensures lines { IfOk result (λ came. IfSome came (λ n. (bytes : List ℕ) × (length bytes ≡ n)
         × Consumes (R.remaining from.old) (R.remaining from.new) bytes
         × Appends (W.contents out.old) (W.contents out.new) (printed_from (come / record_bytes) (begun come input.old ++ bytes))
-        × (begun (come + n) input.new ≡ part_of (begun come input.old ++ bytes))) }
-    ensures none { IfOk result (λ n. n ≡ 0 → IsAtEnd (R.remaining from.old)) }
+        × (begun (come + n) input.new ≡ part_of (begun come input.old ++ bytes)))) }
+    ensures over { IfOk result (λ came. IsNone came → IsAtEnd (R.remaining from.old) × Consumes (R.remaining from.old) (R.remaining from.new) []
+        × (out.new ≡ out.old) × (begun come input.new ≡ begun come input.old)) }
 {
     let mut output = [0u8; 2048];
     let size = records::BYTES as u64;
     let number = come / size;
     let begun = (come % size) as usize;
-    let came = stream::read_behind(from, input, begun);
-    if let Some(e) = came.failed {
-        return Err(Failed::Input(e));
+    let held = stream::read_behind(from, input, begun).map_err(Failed::Input)?;
+    if held == begun {
+        return Ok(None);
     }
-    let held = came.held;
     let end = replay_text::put_lines(number, &input[..held], &mut output);
     out.write_all(&output[..end]).map_err(Failed::Output)?;
     stream::keep(input, held - held % records::BYTES, held);
-    Ok(came.bytes)
+    Ok(Some(held - begun))
 }
 
 // Where it succeeds, the lines of the whole file were written.
@@ -59,47 +55,41 @@ fn replay_all<R: Read, W: Write>(out: &mut W, from: &mut R) -> Result<(), Failed
     ensures { OnOk result (IfSome (R.remaining from.old) (λ file. length file < 2 ^ 63 →
         Appends (W.contents out.old) (W.contents out.new) (printed file))) }
 {
-    let mut input = [0u8; 64800];
+    let mut input = [0u8; ROOM];
     let mut come = 0;
-    while come < NEVER {
-        let more = turn(out, from, &mut input, come)?;
-        if more == 0 {
-            break;
-        }
+    while come < NEVER
+        && let Some(more) = turn(out, from, &mut input, come)?
+    {
         come += more as u64;
     }
     Ok(())
 }
 
-// What failed, and why, on standard error, where no more can be done if that fails too.
-fn say(rt: &HostRuntime, what: &[u8], e: io::Error) -> ExitCode {
-    let _ = rt.stderr().write_all(what);
-    let _ = rt.eprintln(format_args!(": {e}"));
-    ExitCode::FAILURE
+fn replay(rt: &HostRuntime, named: &Named) -> Result<(), Failed> {
+    let mut from = named.open(rt).map_err(Failed::Input)?;
+    replay_all(&mut io::writer(rt), &mut from)
 }
 
-fn replay(rt: &HostRuntime, source: io::Result<Source>, what: &[u8]) -> ExitCode {
-    let ended = match source {
-        Ok(mut from) => replay_all(&mut io::writer(rt), &mut from),
-        Err(e) => Err(Failed::Input(e)),
-    };
-    match ended {
-        Ok(()) => ExitCode::SUCCESS,
-        Err(Failed::Input(e)) => say(rt, what, e),
-        Err(Failed::Output(e)) => say(rt, b"replay: standard output", e),
-    }
+// Why an input could not be opened or read. Its name need not be text, and is written as it is.
+fn say(rt: &HostRuntime, name: &[u8], why: io::Error) -> io::Result<()> {
+    let mut to = rt.stderr();
+    to.write_all(b"replay: ")?;
+    to.write_all(name)?;
+    eprintln!(rt; ": {why}")
 }
 
 fn main(rt: HostRuntime) -> ExitCode {
     if stream::has_argument(&rt, 2) {
-        let _ = rt.eprintln("usage: replay [FILE]");
+        let _ = eprintln!(rt; "usage: replay [FILE]");
         return ExitCode::SUCCESS;
     }
-    let mut what = [0u8; 4104];
-    let program = b"replay: ";
-    let at = program.len();
-    what[..at].copy_from_slice(program);
-    let opened = stream::open_argument(&rt, 1, &mut what, at);
-    let named = opened.named;
-    replay(&rt, opened.source, &what[..named])
+    let mut room = [0u8; stream::LONGEST_NAME];
+    let named = Named::by_argument(&rt, 1, &mut room);
+    // Where standard error takes nothing either, no more can be done.
+    let _ = match replay(&rt, &named) {
+        Ok(()) => return ExitCode::SUCCESS,
+        Err(Failed::Input(why)) => say(&rt, named.as_bytes(), why),
+        Err(failed) => eprintln!(rt; "replay: {failed}"),
+    };
+    ExitCode::FAILURE
 }

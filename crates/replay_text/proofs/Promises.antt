@@ -5,7 +5,9 @@ use mathlib.Core.List.{List, [], ◌∷◌, ◌++◌}
 use Prim.Native.Nat.{ℕ, ◌+◌, ◌*◌, ◌%◌, ◌<◌}
 use native.Mathlib.Omega.{arith}
 use lib.ListN.{length}
+use Rattle.std.specs.Prelude.{Option, Some, None, Result, Ok, Err}
 use Rattle.laws.proofs.Unique.{one_answer}
+use Rattle.answers.specs.declared.Refusal.{Refusal}
 use Rattle.answers.specs.Refusals.{Answer, given, refusal}
 use Rattle.answers.specs.Tests.{Says}
 use Rattle.answers.specs.Calls.{answer, order_of, Gives, NoneSays}
@@ -26,8 +28,7 @@ use Rattle.records.specs.Records.{record_bytes, kind_in, signs_in, mode_in, rese
 use Rattle.records.proofs.Laws.{logged_length, logged_lt, for_own, for_plain}
 use Rattle.replay_text.specs.Verdicts.{right_d, Compared, ok, wrong, compared, FirstDiffering, replay_call, verdict_of, told_replay}
 use Rattle.replay_text.specs.Text.{record_at, lines_of, whole_records, printed_from, printed}
-use Rattle.replay_text.specs.declared.Replayed.{Replayed}
-use Rattle.replay_text.specs.declared.Replayed.TheVariants.{Right, Wrong, Refused as Replayed-as-Refused}
+use Rattle.replay_text.specs.declared.Wrong.{Wrong}
 use Rattle.replay_text.proofs.Compared as two
 use Rattle.replay_text.proofs.Lines as lines
 
@@ -135,16 +136,19 @@ module _ (bytes : List ℕ) where
   tails_elsewhere other = (⊎_elim (λ r. r) (λ t. absurd (other t.0)), inl)
 
 -- No second verdict meets the contract.
+abbrev pub Replayed : Type 0
+Replayed = Result (Option Wrong) Refusal
+
 replayed_of : Answer Compared → Replayed
-replayed_of (given ok) = Right
-replayed_of (given (wrong row column)) = Wrong (record { 0 = row }) (record { 0 = column })
-replayed_of (refusal n d) = Replayed-as-Refused (refusal_of n d)
+replayed_of (given ok) = Ok None
+replayed_of (given (wrong row column)) = Ok (Some (record { row = record { 0 = row }; column = record { 0 = column } }))
+replayed_of (refusal n d) = Err (refusal_of n d)
 
 replayed_back : (a : Replayed) → replayed_of (told_replay a) ≡ a
 unfolding replayed_of
-replayed_back Right = refl
-replayed_back (Wrong row column) = refl
-replayed_back (Replayed-as-Refused x) = ap Replayed-as-Refused (refusal_back x)
+replayed_back (Ok None) = refl
+replayed_back (Ok (Some w)) = refl
+replayed_back (Err x) = ap Err (refusal_back x)
 
 pub one_verdict : (bytes : List ℕ) (a b : Replayed) → Replies (replay_call bytes) (told_replay a) → Replies (replay_call bytes) (told_replay b) → a ≡ b
 one_verdict bytes a b r s = one_answer told_replay replayed_of replayed_back a b (answer (replay_call bytes)) (reply_is r) (reply_is s)

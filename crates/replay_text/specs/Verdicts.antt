@@ -1,5 +1,5 @@
 -- Document 02, K2: the verdict of a step record. Assumes nothing.
-use Rattle.std.specs.Prelude.{ℕ, ◌/◌, ◌%◌, ◌<◌, ◌≡◌, ◌≢◌, List, if◌then◌else◌}
+use Rattle.std.specs.Prelude.{ℕ, ◌/◌, ◌%◌, ◌<◌, ◌≡◌, ◌≢◌, List, if◌then◌else◌, Option, Some, None, Result, Ok, Err}
 use Rattle.laws.specs.Choice.{◌<?◌}
 use Rattle.laws.specs.Lists.{blocks}
 use Rattle.answers.specs.Refusals.{Answer, given, refused}
@@ -9,8 +9,8 @@ use Rattle.kinds.specs.Kinds.{rows_at, columns_at}
 use Rattle.buffers.specs.Buffers.{index, entries_needed}
 use Rattle.step_work.specs.Step.{entry_in, stepped}
 use Rattle.records.specs.Records.{part_a, part_b, part_c, part_d, kind_in, signs_in, mode_asked, logged, record_refusals}
-use Rattle.replay_text.specs.declared.Replayed.{Replayed}
-use Rattle.replay_text.specs.declared.Replayed.TheVariants.{Right, Wrong, Refused as Replayed-as-Refused}
+use Rattle.answers.specs.declared.Refusal.{Refusal}
+use Rattle.replay_text.specs.declared.Wrong.{Wrong}
 
 -- 'Work out D from its own selectors, A, B and C': the words that D ought to have.
 unfoldable pub right_d : (bytes : List ℕ) → List ℕ
@@ -49,7 +49,10 @@ unfoldable pub verdict_of : (bytes : List ℕ) → Answer Compared
 verdict_of bytes = answer (replay_call bytes)
 
 -- what each case of a verdict means
-abbrev pub told_replay : Replayed → Answer Compared
-told_replay Right = given ok
-told_replay (Wrong row column) = given (wrong row.0 column.0)
-told_replay (Replayed-as-Refused x) = refused x
+abbrev pub told_wrong : Option Wrong → Compared
+told_wrong None = ok
+told_wrong (Some w) = wrong w.row.0 w.column.0
+
+abbrev pub told_replay : Result (Option Wrong) Refusal → Answer Compared
+told_replay (Ok x) = given (told_wrong x)
+told_replay (Err x) = refused x

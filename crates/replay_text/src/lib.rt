@@ -9,23 +9,20 @@ ghost use Rattle.buffers.specs.Buffers.{words_needed};
 ghost use Rattle.step_work.specs.Workers.{Ready};
 ghost use Rattle.records.specs.Records.{record_bytes, words_in};
 ghost use Rattle.text.specs.Text.{HasRoom, Put, Pushed};
-ghost use Rattle.replay_text.specs.Verdicts.{wrong, compared, replay_call, verdict_of, told_replay};
+ghost use Rattle.replay_text.specs.Verdicts.{wrong, compared, replay_call, verdict_of, told_replay, told_wrong};
 ghost use Rattle.replay_text.specs.Workers.{word_no, step_words, compared_by};
 ghost use Rattle.replay_text.specs.Text.{verdict_text, line_of, whole_records, printed_from};
 
 use answers::Refusal;
-use buffers::Lengths;
-use kinds::{Column, Entry, Kind, Mode, Row, Signs, rule};
-use records::Header;
-use step::Selected;
+use kinds::{Column, Row, rule};
+use step_work::Selected;
 use text::Text;
 
-// The verdict of a record: its D is right, or wrong, first at a row and a column, or the record is refused.
-#[derive(Clone, Copy)]
-pub enum Replayed {
-    Right,
-    Wrong(Row, Column),
-    Refused(Refusal),
+// The first place, row by row, at which D is wrong.
+#[derive(Clone, Copy, Debug, PartialEq, Eq)]
+pub struct Wrong {
+    pub row: Row,
+    pub column: Column,
 }
 
 // So many words of a part of a record.
@@ -39,12 +36,11 @@ fn words_of(part: &[u8], n: usize) -> [u32; 128]
 }
 
 // The words that D ought to have.
-fn work(kind: Kind, line: Entry, signs: Signs, mode: Mode, record: &[u8], d: &mut [u32])
-    requires { Ready kind.0 signs.0 mode.0 × (line ≡ entry_of kind.0) ×
-        (length «record».now ≡ record_bytes) × (length d.old ≡ words_needed kind.0 2) }
-    ensures { d.new ≡ step_words kind.0 signs.0 mode.0 «record».now }
+fn work(s: Selected, record: &[u8], d: &mut [u32])
+    requires { (length «record».now ≡ record_bytes) × (length d.old ≡ words_needed s.kind.0 2) }
+    ensures { d.new ≡ step_words s.kind.0 s.signs.0 s.mode.0 «record».now }
 {
-    let n = Lengths::of(kind, line);
+    let n = s.lengths();
     let na = n.a;
     let nb = n.b;
     let nc = n.c;
@@ -53,17 +49,7 @@ fn work(kind: Kind, line: Entry, signs: Signs, mode: Mode, record: &[u8], d: &mu
     let c = words_of(&record[records::BEGIN_C..records::BEGIN_D], nc);
     // A verdict has no use for the marks.
     let mut marks: [u32; 4] = [0; 4];
-    step_work::work(
-        kind,
-        line,
-        signs,
-        mode,
-        &a[..na],
-        &b[..nb],
-        &c[..nc],
-        d,
-        &mut marks,
-    );
+    s.work(&a[..na], &b[..nb], &c[..nc], d, &mut marks);
 }
 
 // The word of D in which a place stands, by the words of a lane and the halves of eight rows.
@@ -77,49 +63,45 @@ fn word_of(words: usize, halves: usize, place: usize) -> usize
     rule::lane_at(2, row, column) * words + rule::element_at(2, halves, row, column)
 }
 
-// The first place, row by row, at which the matrices of two warp buffers of D differ.
-fn first_wrong(kind: Kind, line: Entry, log: &[u32], right: &[u32]) -> Replayed
-    requires { Arithmetic kind.0 × (line ≡ entry_of kind.0) × (length log.now ≡ words_needed kind.0 2) ×
-        (length right.now ≡ words_needed kind.0 2) }
-    ensures { told_replay result ≡ given (compared kind.0 log.now right.now) }
+// The first place, row by row, at which the matrices of two warp buffers of D differ, where they do.
+fn first_wrong(s: Selected, log: &[u32], right: &[u32]) -> Option<Wrong>
+    requires { (length log.now ≡ words_needed s.kind.0 2) × (length right.now ≡ words_needed s.kind.0 2) }
+    ensures { told_wrong result ≡ compared s.kind.0 log.now right.now }
 {
-    let words = line.c as usize;
-    let halves = (line.m / 8) as usize;
+    let words = s.line.c as usize;
+    let halves = (s.line.m / 8) as usize;
     let places = halves * 64;
-    let mut place = 0;
-    while place < places {
+    for place in 0..places {
         let word = word_of(words, halves, place);
         if log[word] != right[word] {
-            return Replayed::Wrong(Row((place / 8) as u32), Column((place % 8) as u32));
+            return Some(Wrong {
+                row: Row((place / 8) as u32),
+                column: Column((place % 8) as u32),
+            });
         }
-        place += 1;
     }
-    Replayed::Right
+    None
 }
 
-// The verdict of a record that was judged.
-fn compare(kind: Kind, line: Entry, signs: Signs, mode: Mode, record: &[u8]) -> Replayed
-    requires { Ready kind.0 signs.0 mode.0 × (line ≡ entry_of kind.0) ×
-        (length «record».now ≡ record_bytes) }
-    ensures { told_replay result ≡ given (compared_by kind.0 signs.0 mode.0 «record».now) }
+// What is wrong in a record that was judged.
+fn compare(s: Selected, record: &[u8]) -> Option<Wrong>
+    requires { length «record».now ≡ record_bytes }
+    ensures { told_wrong result ≡ compared_by s.kind.0 s.signs.0 s.mode.0 «record».now }
 {
-    let n = Lengths::of(kind, line).c;
+    let n = s.lengths().c;
     let log = words_of(&record[records::BEGIN_D..records::BYTES], n);
     let mut right: [u32; 128] = [0; 128];
-    work(kind, line, signs, mode, record, &mut right[..n]);
-    first_wrong(kind, line, &log[..n], &right[..n])
+    work(s, record, &mut right[..n]);
+    first_wrong(s, &log[..n], &right[..n])
 }
 
-// The verdict of a record.
-pub fn replay(record: &[u8]) -> Replayed
+// The verdict of a record: where its D is wrong, if anywhere, or its refusal.
+pub fn replay(record: &[u8]) -> Result<Option<Wrong>, Refusal>
     requires { length «record».now ≡ record_bytes }
     ensures { Replies (replay_call «record».now) (told_replay result) }
 {
-    let header = Header::of(record);
-    match records::judge(record) {
-        Selected::As(line) => compare(header.kind, line, header.signs, header.mode, record),
-        Selected::Refused(x) => Replayed::Refused(x),
-    }
+    let s = records::judge(record)?;
+    Ok(compare(s, record))
 }
 
 #[tactic(auto, using(crate::proofs::Lines::ten), unfolding(crate::specs::Text::verdict_text))]
@@ -134,14 +116,14 @@ fn put_wrong(text: &mut Text<'_>, row: Row, column: Column)
 }
 
 #[tactic(auto, using(crate::proofs::Lines::ten, text::proofs::Laws::refused_length), unfolding(crate::specs::Text::verdict_text))]
-fn put_verdict(text: &mut Text<'_>, verdict: Replayed)
+fn put_verdict(text: &mut Text<'_>, verdict: Result<Option<Wrong>, Refusal>)
     requires { HasRoom 28 text.old }
     ensures { Pushed (verdict_text (told_replay verdict)) text.old text.new × (text.new.len ≤ text.old.len + 28) }
 {
     match verdict {
-        Replayed::Right => text.push_text(b"ok\n"),
-        Replayed::Wrong(row, column) => put_wrong(text, row, column),
-        Replayed::Refused(x) => text.push_refused(x.number()),
+        Ok(None) => text.push_text(b"ok\n"),
+        Ok(Some(wrong)) => put_wrong(text, wrong.row, wrong.column),
+        Err(x) => text.push_refused(x.number()),
     }
 }
 

@@ -2,23 +2,22 @@
 // by value.
 #![tactic(auto)]
 
-ghost use Rattle.std.specs.Prelude.{◌≡◌, ◌*◌, ◌<◌, ◌≤◌, length, [], ◌∷◌};
+ghost use Rattle.std.specs.Prelude.{◌≡◌, ◌*◌, ◌<◌, ◌≤◌, length, [], ◌∷◌, IfOk};
+ghost use Rattle.answers.specs.Refusals.{told};
 ghost use Rattle.answers.specs.Tests.{differs};
-ghost use Rattle.answers.specs.Calls.{◌when◌, ◌at◌when◌};
-ghost use Rattle.answers.specs.Promised.{Meets, Judges, Tells};
-ghost use Rattle.kinds.specs.Kinds.{entry_of, Arithmetic};
+ghost use Rattle.answers.specs.Calls.{◌at◌when◌};
+ghost use Rattle.answers.specs.Promised.{Meets, Replies, Judges, Tells};
 ghost use Rattle.buffers.specs.Buffers.{words_needed};
-ghost use Rattle.step_work.specs.Workers.{Ready};
+ghost use Rattle.step.specs.Workers.{told_line};
 ghost use Rattle.run.specs.Runs.{opened_run, zero_run, fed_run};
-ghost use Rattle.run.specs.RunCalls.{max_blocks, bad_run, open_refusals, feed_refusals, read_refusals, marks_refusals, open_call, feed_call, read_call, marks_call};
-ghost use Rattle.run.specs.Workers.{markable, mark_from};
+ghost use Rattle.run.specs.RunCalls.{max_blocks, open_call, feed_call, read_call, marks_call};
+ghost use Rattle.run.specs.Workers.{markable, mark_from, run_call, sums_call, words_call};
 
-use answers::{Refusal, Verdict};
-use buffers::Lengths;
+use answers::Refusal;
 use kinds::{Entry, Kind, Mode, Signs};
-use step::Selected;
+use step_work::Selected;
 
-#[derive(Clone, Copy)]
+#[derive(Clone, Copy, Debug, PartialEq, Eq)]
 pub struct Run {
     pub kind: Kind,
     pub signs: Signs,
@@ -28,93 +27,96 @@ pub struct Run {
     pub marks: [u32; 4],
 }
 
-// A run handed back with the answer of the call.
+// A run handed back with the answer of the call: refused too, a run comes back, as it went in or, from an opening, 0 throughout.
 #[derive(Clone, Copy)]
 pub struct Handed {
     pub run: Run,
-    pub verdict: Verdict,
+    pub verdict: Result<(), Refusal>,
 }
 
 impl Run {
     pub const MAX_BLOCKS: u32 = 4096;
 
     // A run whose sums are C's words, where C was judged.
-    fn opened(kind: Kind, signs: Signs, mode: Mode, c: &[u32]) -> Run
-        requires { Ready kind.0 signs.0 mode.0 × (length c.now ≡ words_needed kind.0 2) }
-        ensures { result ≡ opened_run kind.0 signs.0 mode.0 c.now }
+    fn opened(s: Selected, c: &[u32]) -> Run
+        requires { length c.now ≡ words_needed s.kind.0 2 }
+        ensures { result ≡ opened_run s.kind.0 s.signs.0 s.mode.0 c.now }
     {
         let n = c.len();
         let mut sums: [u32; 128] = [0; 128];
-        buffers::copy(c, &mut sums[..n]);
+        sums[..n].copy_from_slice(c);
         Run {
-            kind,
-            signs,
-            mode,
+            kind: s.kind,
+            signs: s.signs,
+            mode: s.mode,
             blocks: 0,
             sums,
             marks: [0; 4],
         }
     }
 
-    // Refusal 5 of C or D, by its length.
-    fn judge_sums(kind: Kind, line: Entry, sums: usize) -> Verdict
-        requires { line ≡ entry_of kind.0 }
-        ensures { Judges (5 at 0 when differs sums (words_needed kind.0 2) ∷ []) result }
+    // A run that is 0 throughout, which a refused opening hands back.
+    fn zero() -> Run
+        ensures { result ≡ zero_run }
     {
-        if sums != Lengths::of(kind, line).c {
-            return Verdict::Refused(Refusal::WrongLength(0));
+        Run {
+            kind: Kind(0),
+            signs: Signs(0),
+            mode: Mode(0),
+            blocks: 0,
+            sums: [0; 128],
+            marks: [0; 4],
         }
-        Verdict::Accepted
     }
 
-    // Refusals 1, 3, 4 and 5 of an opening.
-    fn judge_open(kind: Kind, signs: Signs, mode: Mode, c: usize) -> Verdict
-        ensures { Judges (open_refusals kind.0 signs.0 mode.0 c) result }
+    // Refusal 5 of C or D, by its length.
+    fn judge_sums(s: Selected, sums: usize) -> Result<(), Refusal>
+        ensures { Judges (5 at 0 when differs sums (words_needed s.kind.0 2) ∷ []) result }
     {
-        match step::select(kind, signs, mode) {
-            Selected::As(line) => Run::judge_sums(kind, line, c),
-            Selected::Refused(x) => Verdict::Refused(x),
+        if sums != s.lengths().c {
+            return Err(Refusal::WrongLength(0));
         }
+        Ok(())
+    }
+
+    // An opening, or refusal 1, 3, 4 or 5.
+    fn try_open(kind: Kind, signs: Signs, mode: Mode, c: &[u32]) -> Result<Run, Refusal>
+        ensures { Replies (open_call kind.0 signs.0 mode.0 c.now) (told result) }
+    {
+        let s = step::select(kind, signs, mode)?;
+        Run::judge_sums(s, c.len())?;
+        Ok(Run::opened(s, c))
     }
 
     // A run whose sums are C's words.
     pub fn open(kind: Kind, signs: Signs, mode: Mode, c: &[u32]) -> Handed
         ensures { Meets (open_call kind.0 signs.0 mode.0 c.now) zero_run result.verdict result.run }
     {
-        let verdict = Run::judge_open(kind, signs, mode, c.len());
-        match verdict {
-            Verdict::Accepted => Handed {
-                run: Run::opened(kind, signs, mode, c),
-                verdict,
+        match Run::try_open(kind, signs, mode, c) {
+            Ok(run) => Handed {
+                run,
+                verdict: Ok(()),
             },
-            Verdict::Refused(_) => Handed {
-                run: Run {
-                    kind: Kind(0),
-                    signs: Signs(0),
-                    mode: Mode(0),
-                    blocks: 0,
-                    sums: [0; 128],
-                    marks: [0; 4],
-                },
-                verdict,
+            Err(x) => Handed {
+                run: Run::zero(),
+                verdict: Err(x),
             },
         }
     }
 
     // The words of marks in which one may be set: those of the sums, in a run that can clamp.
     #[tactic(auto, using(crate::proofs::Laws::markables))]
-    fn markable(kind: Kind, line: Entry, mode: Mode) -> usize
-        requires { Arithmetic kind.0 × (line ≡ entry_of kind.0) }
-        ensures { (result ≤ 4) × (result * 32 ≡ markable kind.0 mode.0) }
+    fn markable(s: Selected) -> usize
+        ensures { (result ≤ 4) × (result * 32 ≡ markable s.kind.0 s.mode.0) }
     {
-        let m = mode.0;
+        let m = s.mode.0;
         if m == 0 {
             return 0;
         }
-        if line.element == Entry::ONE_BIT {
+        if s.line.element == Entry::ONE_BIT {
             return 0;
         }
-        Lengths::of(kind, line).c / 32
+        s.lengths().c / 32
     }
 
     // Whether a mark is set in that word or behind it.
@@ -130,82 +132,59 @@ impl Run {
         false
     }
 
-    // Refusal 10.
-    fn judge(self) -> Verdict
-        ensures { Judges (10 when bad_run self ∷ []) result }
+    // Its kind and selectors, or refusal 10.
+    fn judge(&self) -> Result<Selected, Refusal>
+        ensures run { Replies (run_call self.now) (told_line result) }
+        ensures own { IfOk result (λ s. (s.kind ≡ self.now.kind) × (s.signs ≡ self.now.signs) × (s.mode ≡ self.now.mode)) }
     {
-        let kind = self.kind;
-        let signs = self.signs;
-        let mode = self.mode;
-        let marks = self.marks;
-        let Selected::As(line) = step::select(kind, signs, mode) else {
-            return Verdict::Refused(Refusal::BadRun);
+        let Ok(s) = step::select(self.kind, self.signs, self.mode) else {
+            return Err(Refusal::BadRun);
         };
         if Run::MAX_BLOCKS < self.blocks {
-            return Verdict::Refused(Refusal::BadRun);
+            return Err(Refusal::BadRun);
         }
-        if Run::marked_from(&marks, Run::markable(kind, line, mode)) {
-            return Verdict::Refused(Refusal::BadRun);
+        if Run::marked_from(&self.marks, Run::markable(s)) {
+            return Err(Refusal::BadRun);
         }
-        Verdict::Accepted
+        Ok(s)
     }
 
-    // Refusals 10, 9 and 5 of a feed.
-    fn judge_feed(self, a: usize, b: usize) -> Verdict
-        ensures { Judges (feed_refusals self a b) result }
+    // The run with one block more, or refusal 10, 9 or 5.
+    fn try_feed(&self, a: &[u32], b: &[u32]) -> Result<Run, Refusal>
+        ensures { Replies (feed_call self.now a.now b.now) (told result) }
     {
-        let kind = self.kind;
-        let verdict = self.judge();
-        let Verdict::Accepted = verdict else {
-            return verdict;
-        };
+        let s = self.judge()?;
         if Run::MAX_BLOCKS <= self.blocks {
-            return Verdict::Refused(Refusal::RunFull);
+            return Err(Refusal::RunFull);
         }
-        let line = Entry::of(kind);
-        let n = Lengths::of(kind, line);
-        if a != n.a {
-            return Verdict::Refused(Refusal::WrongLength(0));
+        let n = s.lengths();
+        if a.len() != n.a {
+            return Err(Refusal::WrongLength(0));
         }
-        if b != n.b {
-            return Verdict::Refused(Refusal::WrongLength(1));
+        if b.len() != n.b {
+            return Err(Refusal::WrongLength(1));
         }
-        verdict
+        Ok(self.fed(s, a, b))
     }
 
     // The run with one block more, where the block was judged.
-    fn fed(self, a: &[u32], b: &[u32]) -> Run
-        requires ready { Ready self.kind.0 self.signs.0 self.mode.0 × (self.blocks < max_blocks) }
-        requires a_len { (length a.now ≡ words_needed self.kind.0 0) × (length b.now ≡ words_needed self.kind.0 1) }
-        ensures { result ≡ fed_run self a.now b.now }
+    fn fed(&self, s: Selected, a: &[u32], b: &[u32]) -> Run
+        requires own { (s.kind ≡ self.now.kind) × (s.signs ≡ self.now.signs) × (s.mode ≡ self.now.mode) ×
+            (self.now.blocks < max_blocks) }
+        requires a_len { (length a.now ≡ words_needed s.kind.0 0) × (length b.now ≡ words_needed s.kind.0 1) }
+        ensures { result ≡ fed_run self.now a.now b.now }
     {
-        let kind = self.kind;
-        let signs = self.signs;
-        let mode = self.mode;
-        let blocks = self.blocks + 1;
+        let n = s.lengths().c;
         // The old sums are C. D starts from them too, so that the unused ones stay.
-        let sums = self.sums;
-        let c = sums;
-        let mut d = sums;
+        let c = self.sums;
+        let mut d = self.sums;
         let mut marks = self.marks;
-        let line = Entry::of(kind);
-        let n = Lengths::of(kind, line).c;
-        step_work::work(
-            kind,
-            line,
-            signs,
-            mode,
-            a,
-            b,
-            &c[..n],
-            &mut d[..n],
-            &mut marks,
-        );
+        s.work(a, b, &c[..n], &mut d[..n], &mut marks);
         Run {
-            kind,
-            signs,
-            mode,
-            blocks,
+            kind: self.kind,
+            signs: self.signs,
+            mode: self.mode,
+            blocks: self.blocks + 1,
             sums: d,
             marks,
         }
@@ -215,26 +194,27 @@ impl Run {
     pub fn feed(self, a: &[u32], b: &[u32]) -> Handed
         ensures { Meets (feed_call self a.now b.now) self result.verdict result.run }
     {
-        let verdict = self.judge_feed(a.len(), b.len());
-        match verdict {
-            Verdict::Accepted => Handed {
-                run: self.fed(a, b),
-                verdict,
+        match self.try_feed(a, b) {
+            Ok(run) => Handed {
+                run,
+                verdict: Ok(()),
             },
-            Verdict::Refused(_) => Handed { run: self, verdict },
+            Err(x) => Handed {
+                run: self,
+                verdict: Err(x),
+            },
         }
     }
 
-    // Refusals 10 and 5 of a read.
-    fn judge_read(self, d: usize) -> Verdict
-        ensures { Judges (read_refusals self d) result }
+    // The used sums into D, or refusal 10 or 5.
+    fn read_into(&self, d: &mut [u32]) -> Result<(), Refusal>
+        ensures { Meets (sums_call self.now d.old) d.old result d.new }
     {
-        let kind = self.kind;
-        let verdict = self.judge();
-        let Verdict::Accepted = verdict else {
-            return verdict;
-        };
-        Run::judge_sums(kind, Entry::of(kind), d)
+        let s = self.judge()?;
+        Run::judge_sums(s, d.len())?;
+        let n = d.len();
+        d.copy_from_slice(&self.sums[..n]);
+        Ok(())
     }
 
     // The used sums, into D; the run is as it was.
@@ -242,28 +222,20 @@ impl Run {
         ensures { Meets (read_call self d.old) (d.old, self) result.verdict
             (d.new, result.run) }
     {
-        let n = d.len();
-        let verdict = self.judge_read(n);
-        let Verdict::Accepted = verdict else {
-            return Handed { run: self, verdict };
-        };
-        let sums = self.sums;
-        buffers::copy(&sums[..n], d);
+        let verdict = self.read_into(d);
         Handed { run: self, verdict }
     }
 
-    // Refusals 10 and 5 of reading the marks.
-    fn judge_marks(self, n: usize) -> Verdict
-        ensures { Judges (marks_refusals self n) result }
+    // The four words of marks, or refusal 10 or 5.
+    fn marks_into(&self, out: &mut [u32]) -> Result<(), Refusal>
+        ensures { Meets (words_call self.now out.old) out.old result out.new }
     {
-        let verdict = self.judge();
-        let Verdict::Accepted = verdict else {
-            return verdict;
-        };
-        if n != 4 {
-            return Verdict::Refused(Refusal::WrongLength(0));
+        let _ = self.judge()?;
+        if out.len() != 4 {
+            return Err(Refusal::WrongLength(0));
         }
-        verdict
+        out.copy_from_slice(&self.marks);
+        Ok(())
     }
 
     // The four words of marks; the run is as it was.
@@ -271,12 +243,7 @@ impl Run {
         ensures { Meets (marks_call self out.old) (out.old, self) result.verdict
             (out.new, result.run) }
     {
-        let verdict = self.judge_marks(out.len());
-        let Verdict::Accepted = verdict else {
-            return Handed { run: self, verdict };
-        };
-        let marks = self.marks;
-        buffers::copy(&marks, out);
+        let verdict = self.marks_into(out);
         Handed { run: self, verdict }
     }
 }

@@ -1,24 +1,17 @@
 -- What an accepted step tells of its numbers and lengths, and that the plain step's selectors are never refused. Assumes nothing.
 use Rattle.std.proofs.Common.{if◌then◌else◌}
-use mathlib.Core.Path.{◌≡◌, refl, ap, subst}
+use mathlib.Core.Path.{◌≡◌, refl, ap}
 use mathlib.Core.Bool.{Bool, true, false, ◌&&◌}
 use Prim.Native.Nat.{ℕ}
 use Rattle.answers.specs.Refusals.{given, refusal}
 use Rattle.answers.specs.Tests.{holds}
 use Rattle.answers.specs.Calls.{first, judged_by}
-use Rattle.answers.specs.Right.{Right, Given, Passes}
-use Rattle.answers.specs.Promised.{Replies, Judges}
-use Rattle.answers.specs.declared.Refusal.{Refusal}
-use Rattle.answers.specs.declared.Verdict.TheVariants.{Accepted, Refused}
-use Rattle.answers.proofs.Shows.{passes, admitted}
-use Rattle.kinds.specs.Kinds.{entry_of, one_bit}
-use Rattle.kinds.specs.declared.Entry.{Entry}
+use Rattle.answers.specs.Right.{Passes}
+use Rattle.answers.proofs.Shows.{passes}
+use Rattle.kinds.specs.Kinds.{one_bit}
 use Rattle.kinds.specs.Refusals.{unknown_kind}
 use Rattle.step_work.specs.Workers.{Ready, Sized}
 use Rattle.step.specs.StepCalls.{not_arithmetic, selector_refusals, buffer_refusals, step_refusals, plain_refusals, step_answer}
-use Rattle.step.specs.Workers.{told_line, selector_call}
-use Rattle.step.specs.declared.Selected.{Selected}
-use Rattle.step.specs.declared.Selected.TheVariants.{As, Refused as Selected-as-Refused}
 
 -- the selectors pass exactly where the numbers are ready
 module _ (k signs mode : ℕ) where
@@ -28,20 +21,6 @@ module _ (k signs mode : ℕ) where
 
   pub ready_passes : Ready k signs mode → Passes (selector_refusals k signs mode)
   ready_passes ok = search ok
-
--- from the line that a call was handed: the selectors were accepted, and it is the kind's, or they were refused
-module _ (k signs mode : ℕ) (s : Selected) (told : Replies (selector_call k signs mode) (told_line s)) where
-  right : (t : Selected) → s ≡ t → Right (selector_refusals k signs mode) (told_line t)
-  right t e = subst (λ (t : Selected). Right (selector_refusals k signs mode) (told_line t)) e told.reply_right
-
-  pub selected : (line : Entry) → s ≡ As line → Judges (selector_refusals k signs mode) Accepted
-  selected line e = record { verdict_right = right (As line) e }
-
-  pub selected_line : (line : Entry) → s ≡ As line → Ready k signs mode × (line ≡ entry_of k)
-  selected_line line e = (ready k signs mode (admitted (selected line e) refl), subst (λ (t : Selected). Given (told_line t) (entry_of k)) e told.reply_is)
-
-  pub rejected : (x : Refusal) → s ≡ Selected-as-Refused x → Judges (selector_refusals k signs mode) (Refused x)
-  rejected x e = record { verdict_right = right (Selected-as-Refused x) e }
 
 -- the lengths of an accepted step
 pub sized : (k a b c d : ℕ) → Passes (buffer_refusals k a b c d) → Sized k a b c d

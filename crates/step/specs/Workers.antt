@@ -1,18 +1,18 @@
 -- What the workers answer. Assumes nothing.
-use Rattle.std.specs.Prelude.{ℕ, List, length}
+use Rattle.std.specs.Prelude.{ℕ, List, length, Result, Ok, Err}
 use Rattle.answers.specs.Refusals.{Answer, given, refused}
 use Rattle.answers.specs.Calls.{Call}
 use Rattle.kinds.specs.Kinds.{entry_of}
 use Rattle.kinds.specs.declared.Entry.{Entry}
 use Rattle.step_work.specs.Step.{stepped}
 use Rattle.step.specs.StepCalls.{selector_refusals, buffer_refusals}
-use Rattle.step.specs.declared.Selected.{Selected}
-use Rattle.step.specs.declared.Selected.TheVariants.{As, Refused as Selected-as-Refused}
+use Rattle.answers.specs.declared.Refusal.{Refusal}
+use Rattle.step_work.specs.declared.Selected.{Selected}
 
 -- the line of a kind whose selectors are judged
-abbrev pub told_line : Selected → Answer Entry
-told_line (As e) = given e
-told_line (Selected-as-Refused x) = refused x
+abbrev pub told_line : Result Selected Refusal → Answer Entry
+told_line (Ok s) = given s.line
+told_line (Err x) = refused x
 
 abbrev pub selector_call : (kind signs mode : ℕ) → Call Entry
 selector_call kind signs mode = record { refusals = selector_refusals kind signs mode; gives = entry_of kind }

@@ -1,21 +1,20 @@
 -- The ones of a row and a column, pair by pair; and the words lie by the rule as the elements do, so that the bits of a row and a column are the
 -- one-bit elements of their places. Assumes nothing.
 use mathlib.Core.Path.{◌≡◌, sym, ap, ap₂, subst, ◌∙◌}
-use mathlib.Core.List.{List, ◌++◌}
+use mathlib.Core.List.{List}
 use Prim.Native.Nat.{ℕ, ◌+◌, ◌*◌, ◌/◌, ◌%◌, ◌^◌, ◌<◌, ◌≤◌}
-use native.Mathlib.Nat.{one-mul, mul-le-mul, div-add-mod', mod-lt, div-lt_iff_lt-mul}
+use native.Mathlib.Nat.{one-mul, div-add-mod', mod-lt, div-lt_iff_lt-mul}
 use native.Mathlib.Omega.{arith}
 use lib.Arith.{digits_lt, digits_div, digits_mod}
 use lib.IntN.{pos, sub_ℕ}
-use lib.ListN.{length, get_or, take, length-append}
-use lib.Seq.{take_at}
+use lib.ListN.{length, get_or}
 use Rattle.laws.specs.Bits.{combine, ones_in, sum_n}
 use Rattle.laws.specs.Fields.{field, joined}
 use Rattle.laws.specs.Lists.{blocks}
 use Rattle.laws.proofs.Bits.{sum_cong, sum_split, ones_tab, ones_le, combine_lt}
 use Rattle.laws.proofs.Differences.{is_pos}
 use Rattle.laws.proofs.Fields.{field_field, field_joined}
-use Rattle.laws.proofs.Lists.{length_tab, get_or_tab, is_tab, tab_ext}
+use Rattle.laws.proofs.Lists.{get_or_tab, is_tab, tab_ext}
 use Rattle.kinds.specs.Kinds.{lanes}
 use Rattle.kinds.specs.Rule.{lane_of, element_of, major, minor}
 use Rattle.kinds.proofs.Digits.{lane_lt, element_lt, major_lt, minor_lt, word_lane, word_element}
@@ -64,9 +63,6 @@ module _ (mode : ℕ) (x y : List ℕ) (i column : ℕ) where
           let high : (64 * q + t) / 64 ≡ q = omega arith in
           let low : (64 * q + t) % 64 ≡ t = omega arith in
           rw (high, low)
-
-pub few_words : (spans halves : ℕ) → spans ≤ 2 → halves ≤ 2 → spans * halves ≤ 4
-few_words spans halves hs hh = mul-le-mul {n₁ = spans} {m₁ = halves} {n₂ = 2} {m₂ = 2} hs hh
 
 -- word q of a row or a column
 module _ (spans halves x q : ℕ) (h0 : 0 < halves) (hx : x < halves * 8) (hq : q < spans * 4) where
@@ -159,22 +155,3 @@ word_is halves s c j at n w ea en ew = cc (div-add-mod' j (2 * halves), is_pos n
 pub lined : (ws : List ℕ) → length ws ≡ 32 → ws ≡ lines_of 1 1 ws
 unfolding lines_of lane_of element_of
 lined ws e = is_tab 32 (blocks 4 (λ x q. get_or ws (word_at 1 1 x q) 0)) ws 0 e (λ k l. ap (λ (i : ℕ). get_or ws i 0) {x = k} (omega arith))
-
--- lines at the front of a buffer
-module _ (spans halves : ℕ) (ws xs rest : List ℕ) (e : xs ≡ lines_of spans halves ws) where
-  length_front : length xs ≡ halves * 8 * (spans * 4)
-  unfolding lines_of
-  length_front = ap length e ∙ length_tab (halves * 8 * (spans * 4)) _
-
-  pub front_is : take (halves * 8 * (spans * 4)) (xs ++ rest) ≡ lines_of spans halves ws
-  front_is = take_at xs rest (halves * 8 * (spans * 4)) length_front ∙ e
-
-  pub front_length : length (take (halves * 8 * (spans * 4)) (xs ++ rest)) ≡ halves * 8 * (spans * 4)
-  front_length = ap length (front_is ∙ sym e) ∙ length_front
-
-  pub front_in : halves * 8 * (spans * 4) ≤ length (xs ++ rest)
-  front_in = simp length-append (omega (arith, length_front))
-
--- there is room for them
-pub room : (spans halves : ℕ) → spans ≤ 2 → halves ≤ 2 → halves * 8 * (spans * 4) ≤ 128
-room spans halves hs hh = mul-le-mul {n₁ = halves * 8} {m₁ = spans * 4} {n₂ = 16} {m₂ = 8} (omega arith) (omega arith)

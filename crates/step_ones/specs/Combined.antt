@@ -1,6 +1,6 @@
 -- The ones as the code counts them: pair by pair of words, a row of A beside the columns of B. The crate step_work ties them to document 01's
 -- combined bits. Assumes nothing.
-use Rattle.std.specs.Prelude.{ℕ, ◌+◌, ◌*◌, ◌/◌, ◌%◌, ◌^◌, ◌<◌, ◌≤◌, ◌≡◌, List, length, get_or, pos}
+use Rattle.std.specs.Prelude.{ℕ, ◌+◌, ◌*◌, ◌/◌, ◌%◌, ◌^◌, ◌<◌, ◌≡◌, List, get_or, pos}
 use Rattle.laws.specs.Bits.{combine, ones_in}
 use Rattle.laws.specs.Fields.{joined}
 use Rattle.laws.specs.Lists.{tab, blocks}
@@ -60,27 +60,3 @@ place_at halves lane i = major 2 halves lane i * 8 + minor 2 halves lane i
 unfoldable pub sums_words : (halves : ℕ) → (s c : List ℕ) → List ℕ
 sums_words halves s c =
     tab (lanes * (2 * halves)) (blocks (2 * halves) (λ lane i. cell_of 0 (get_or c (lane * (2 * halves) + i) 0) (pos (get_or s (place_at halves lane i) 0))))
-
--- what the workers ask for: of a warp buffer, whose lanes hold a word for each span and half,
-pub record Reaches (spans halves : ℕ) (ws : List ℕ) : Type 0 where
-  pub spans_pos : 0 < spans
-  pub spans_le : spans ≤ 2
-  pub halves_pos : 0 < halves
-  pub halves_le : halves ≤ 2
-  pub words : length ws ≡ lanes * (spans * halves)
-
--- of a row in lines,
-pub record Spanned (spans mode : ℕ) (x : List ℕ) (row : ℕ) : Type 0 where
-  pub spans_pos : 0 < spans
-  pub spans_le : spans ≤ 2
-  pub mode_le : mode ≤ 1
-  pub row_in : row * (spans * 4) + spans * 4 ≤ length x
-
--- and of all lines
-pub record Counts (spans halves mode : ℕ) (x : List ℕ) : Type 0 where
-  pub spans_pos : 0 < spans
-  pub spans_le : spans ≤ 2
-  pub halves_pos : 0 < halves
-  pub halves_le : halves ≤ 2
-  pub mode_le : mode ≤ 1
-  pub of_x : length x ≡ halves * 8 * (spans * 4)

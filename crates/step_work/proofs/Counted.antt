@@ -22,7 +22,7 @@ use Rattle.buffers.specs.Buffers.{element_at}
 use Rattle.step_work.specs.Step.{entry_in, depth, combined_bits, added, limit, result_at, stepped}
 use Rattle.step_work.specs.Workers.{Sized}
 use Rattle.step_limit.specs.Limits.{cell_of}
-use Rattle.step_ones.specs.Combined.{bit_in, bit_of, bits_of, ones_word, ones_words, lines_of, Reaches}
+use Rattle.step_ones.specs.Combined.{bit_in, bit_of, bits_of, ones_word, ones_words, lines_of}
 use Rattle.step_ones.proofs.Counts.{line_bit, column_bit}
 use Rattle.step_work.proofs.Matrices.{pairs, columns_half, halves_pos, halves_le, words_pos, entry_A, entry_B, entry_C, stepped_is}
 
@@ -131,22 +131,11 @@ module _ (k : ℕ) (ok : Arithmetic k) (bit : Says (one_bit k)) where
 
   -- of one of them: what the workers ask for, and the words that they leave
   module _ (s h : ℕ) (known : (spans ≡ s) × (halves ≡ h)) where
-    bounds : (0 < s) × (s ≤ 2) × (0 < h) × (h ≤ 2)
-    bounds =
-        let some = spans_pos in
-        let most = halves_le k ok in
-        let half = halves_pos k ok in
-        let few = spans_le in
-        (omega (arith, known), omega (arith, known), omega (arith, known), omega (arith, known))
-
     pub asked : (a b c d : List ℕ) → Sized k (length a) (length b) (length c) (length d)
-        → Reaches s h a × Reaches s 1 b × ((length c ≡ lanes * (2 * h)) × (length d ≡ lanes * (2 * h)))
+        → ((length a ≡ lanes * (s * h)) × (length b ≡ lanes * s)) × ((length c ≡ lanes * (2 * h)) × (length d ≡ lanes * (2 * h)))
     asked a b c d z =
-        let pair : lanes * e.c ≡ lanes * (2 * h) = ap (λ (w : ℕ). lanes * w) (pairs k ok ∙ ap (λ (h : ℕ). 2 * h) known.1) in
-        let of_a = z.of_a ∙ ap (λ (w : ℕ). lanes * w) (words_A ∙ ap₂ ◌*◌ known.0 known.1) in
-        let of_b : length b ≡ lanes * (s * 1) = z.of_b ∙ ap (λ (w : ℕ). lanes * w) {y = s * 1} (omega (arith, known.0)) in (
-          record { spans_pos = bounds.0; spans_le = bounds.1; halves_pos = bounds.2; halves_le = bounds.3; words = of_a },
-          record { spans_pos = bounds.0; spans_le = bounds.1; halves_pos = omega arith; halves_le = omega arith; words = of_b },
+        let pair : lanes * e.c ≡ lanes * (2 * h) = ap (λ (w : ℕ). lanes * w) (pairs k ok ∙ ap (λ (h : ℕ). 2 * h) known.1) in (
+          (z.of_a ∙ ap (λ (w : ℕ). lanes * w) (words_A ∙ ap₂ ◌*◌ known.0 known.1), z.of_b ∙ ap (λ (w : ℕ). lanes * w) known.0),
           (z.of_c ∙ pair, z.of_d ∙ pair),
         )
 

@@ -1,4 +1,4 @@
-// A step's worker: the words of D, which are C plus A times B, for numbers and lengths that were judged.
+// A step's worker: the words of D, which are C plus A times B, for selectors and lengths that were judged.
 #![tactic(auto)]
 
 ghost use Rattle.std.specs.Prelude.{◌≡◌, ◌-◌, ◌^◌, ◌<◌, ◌≤◌, length};
@@ -6,11 +6,25 @@ ghost use Rattle.kinds.specs.Kinds.{entry_of, one_bit, integer, Arithmetic};
 ghost use Rattle.answers.specs.Tests.{Says};
 ghost use Rattle.step_work.specs.Step.{unsigned_a, unsigned_b, stepped, cuts};
 ghost use Rattle.step_work.specs.Workers.{Ready, Sized};
+ghost use Rattle.buffers.specs.Buffers.{words_needed};
 ghost use Rattle.step_limit.specs.Marks.{kept_marks};
 ghost use Rattle.step_products.specs.Sums.{offset_of};
 
+use buffers::Lengths;
 use kinds::{Entry, Kind, Layouts, Mode, Signs};
+use step_ones::Counter;
 use step_products::Offsets;
+
+// A kind and selectors that were judged, with the kind's line of the table: what a step and a run's feed work by.
+#[derive(Clone, Copy)]
+pub struct Selected {
+    pub kind: Kind,
+    pub line: Entry,
+    pub signs: Signs,
+    pub mode: Mode,
+    pub ghost ready: { Ready kind.0 signs.0 mode.0 },
+    pub ghost line_is: { line ≡ entry_of kind.0 },
+}
 
 fn unsigned_a(signs: Signs) -> bool
     ensures { result ≡ unsigned_a signs.0 }
@@ -83,47 +97,43 @@ fn multiply(
     step_products::cells(l, mode, h, &x, &y, c, d, marks);
 }
 
-// The one-bit kinds. Their spans and halves are written out, so that the compiler makes a loop of each. With one word a lane the words lie in lines
-// as they are.
+// The one-bit kinds, each by its spans and halves. With one word a lane the words lie in lines as they are.
 fn count(kind: Kind, line: Entry, mode: Mode, a: &[u32], b: &[u32], c: &[u32], d: &mut [u32])
-    requires arithmetic { Arithmetic kind.0 × Says (one_bit kind.0) × (mode.0 ≤ 1) × (line ≡ entry_of kind.0) }
+    requires arithmetic { Arithmetic kind.0 × Says (one_bit kind.0) × (line ≡ entry_of kind.0) }
     requires sized { Sized kind.0 (length a.now) (length b.now) (length c.now) (length d.old) }
     ensures { d.new ≡ stepped kind.0 0 mode.0 a.now b.now c.now }
 {
     if line.m == 8 {
-        step_ones::fill(1, 1, mode, a, b, c, d);
-        return;
+        Counter::<1, 1> { mode }.fill(a, b, c, d);
+    } else if line.b == 1 {
+        Counter::<1, 2> { mode }.fill_in_lines(a, b, c, d);
+    } else {
+        Counter::<2, 2> { mode }.fill_in_lines(a, b, c, d);
     }
-    if line.b == 1 {
-        step_ones::fill_in_lines(1, 2, mode, a, b, c, d);
-        return;
-    }
-    step_ones::fill_in_lines(2, 2, mode, a, b, c, d);
 }
 
-// The words of D, and the marks with those that are set now, for numbers and lengths that were judged: the worker of a step and of a run's feed. The
-// one-bit kinds can't clamp and set none.
-pub fn work(
-    kind: Kind,
-    line: Entry,
-    signs: Signs,
-    mode: Mode,
-    a: &[u32],
-    b: &[u32],
-    c: &[u32],
-    d: &mut [u32],
-    marks: &mut [u32],
-)
-    requires ready { Ready kind.0 signs.0 mode.0 × (line ≡ entry_of kind.0) × (length marks.old ≡ 4) }
-    requires sized { Sized kind.0 (length a.now) (length b.now) (length c.now) (length d.old) }
-    ensures words { d.new ≡ stepped kind.0 signs.0 mode.0 a.now b.now
-        c.now }
-    ensures marks { marks.new ≡ kept_marks marks.old (cuts kind.0 signs.0 mode.0
-        a.now b.now c.now) }
-{
-    if line.element == Entry::ONE_BIT {
-        count(kind, line, mode, a, b, c, d);
-        return;
+impl Selected {
+    // The words that A, B and C need.
+    pub fn lengths(self) -> Lengths
+        ensures { (result.a ≡ words_needed self.kind.0 0) × (result.b ≡ words_needed self.kind.0 1) ×
+            (result.c ≡ words_needed self.kind.0 2) }
+    {
+        Lengths::of(self.kind, self.line)
     }
-    multiply(kind, signs, mode, a, b, c, d, marks);
+
+    // The words of D, and the marks with those that are set now, for lengths that were judged. The one-bit kinds can't clamp and set none.
+    pub fn work(self, a: &[u32], b: &[u32], c: &[u32], d: &mut [u32], marks: &mut [u32])
+        requires marks { length marks.old ≡ 4 }
+        requires sized { Sized self.kind.0 (length a.now) (length b.now) (length c.now) (length d.old) }
+        ensures words { d.new ≡ stepped self.kind.0 self.signs.0 self.mode.0 a.now b.now
+            c.now }
+        ensures marks { marks.new ≡ kept_marks marks.old (cuts self.kind.0 self.signs.0 self.mode.0
+            a.now b.now c.now) }
+    {
+        if self.line.element == Entry::ONE_BIT {
+            count(self.kind, self.line, self.mode, a, b, c, d);
+            return;
+        }
+        multiply(self.kind, self.signs, self.mode, a, b, c, d, marks);
+    }
 }

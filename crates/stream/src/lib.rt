@@ -1,67 +1,57 @@
-// What the programs on files share: bytes that come through a reader, and the file that an argument names.
+// What the programs on files share: what ends them, bytes that come through a reader, and the file that an argument names.
 #![tactic(auto)]
 
-ghost use Rattle.std.specs.Prelude.{◌≡◌, ◌+◌, ◌-◌, ◌^◌, ◌<◌, ◌≤◌, length, take, drop, IsNone};
-ghost use Rattle.std.specs.Io.KnownBytes.{Consumes, IsAtEnd};
+ghost use Rattle.std.specs.Prelude.{◌≡◌, ◌+◌, ◌-◌, ◌<◌, ◌≤◌, length, take, drop, IfOk, IsOkAnd, IsErr, OnErr};
+ghost use Rattle.std.specs.Io.KnownBytes.{Consumes, IsAtEnd, Keeps};
 ghost use Rattle.std.specs.Counts.{IsPrefixLen};
 ghost use Rattle.stream.specs.Moved.{moved};
+ghost use Rattle.stream.specs.Named.{said, IsTooLong};
 
 use std::env::{Env, FillError};
+use std::error::Error;
 use std::fs::File;
 use std::io::{ErrorKind, Read, Stdin};
-use std::{io, str};
+use std::{fmt, io, str};
 
-// What a read brought: so many bytes, none at the end of the input or where it failed, how many the buffer holds now, and why the read failed.
-#[derive(Drop)]
-pub struct Came {
-    pub bytes: usize,
-    pub held: usize,
-    pub failed: Option<io::Error>,
+// What ended a program before its input did. As a text it calls the input standard input: a program that reads a file says the file's name.
+#[derive(Debug, Drop)]
+pub enum Failed {
+    Input(io::Error),
+    Output(io::Error),
 }
 
-fn read_once<R: Read>(from: &mut R, input: &mut [u8], begun: usize) -> Came
-    requires { begun + length input.old < 2 ^ 64 }
-    ensures held { IsPrefixLen result.bytes input.new × (result.held ≡ begun + result.bytes) }
-    ensures moved { Consumes (R.remaining from.old) (R.remaining from.new) (take result.bytes input.new) }
-    ensures none { 0 < length input.new → IsNone result.failed → result.bytes ≡ 0 → IsAtEnd (R.remaining from.old) }
-{
-    match from.read(input) {
-        Ok(bytes) => Came {
-            bytes,
-            held: begun + bytes,
-            failed: None,
-        },
-        Err(e) => Came {
-            bytes: 0,
-            held: begun,
-            failed: Some(e),
-        },
+impl fmt::Display for Failed {
+    fn fmt<W: fmt::Write>(&self, f: &mut fmt::Formatter<W>) -> fmt::Result {
+        match self {
+            Failed::Input(e) => write!(f, "standard input: {e}"),
+            Failed::Output(e) => write!(f, "standard output: {e}"),
+        }
     }
 }
 
-// One read, behind the bytes that have come of a record that has begun, which stay.
-pub fn read_behind<R: Read>(from: &mut R, input: &mut [u8], begun: usize) -> Came
+impl Error for Failed {}
+
+// One read, behind the bytes that have come of a record that has begun, which stay: how many bytes the buffer holds then, as many as before only at
+// the end of the input.
+pub fn read_behind<R: Read>(from: &mut R, input: &mut [u8], begun: usize) -> io::Result<usize>
     requires { begun ≤ length input.old }
-    ensures prefix_len { IsPrefixLen result.held input.new }
-    ensures held_value { result.held ≡ begun + result.bytes }
+    ensures held { IfOk result (λ held. (begun ≤ held) × IsPrefixLen held input.new) }
     ensures input_unchanged { take begun input.new ≡ take begun input.old }
-    ensures moved { Consumes (R.remaining from.old) (R.remaining from.new) (take result.bytes (drop begun input.new)) }
-    ensures none { begun < length input.new → IsNone result.failed → result.bytes ≡ 0 → IsAtEnd (R.remaining from.old) }
+    ensures moved { IfOk result (λ held. Consumes (R.remaining from.old) (R.remaining from.new) (take (held - begun) (drop begun input.new))) }
+    ensures failed { OnErr result (Keeps (R.remaining from.old) (R.remaining from.new)) }
+    ensures none { IfOk result (λ held. begun < length input.new → held ≡ begun → IsAtEnd (R.remaining from.old)) }
 {
-    read_once(from, &mut input[begun..], begun)
+    let bytes = from.read(&mut input[begun..])?;
+    Ok(begun + bytes)
 }
 
 // Moves the bytes from one place on until another to the start of the buffer: those of a record that has begun, for the next read to go on behind.
+#[tactic(auto, using(crate::proofs::Moved::pasted_moved))]
 pub fn keep(input: &mut [u8], from: usize, until: usize)
     requires { (from ≤ until) × (until ≤ length input.old) }
     ensures { input.new ≡ moved from (until - from) input.old }
 {
-    let count = until - from;
-    let mut i = 0;
-    while i < count {
-        input[i] = input[from + i];
-        i += 1;
-    }
+    input.copy_within(from..until, 0);
 }
 
 // Where records come from.
@@ -84,55 +74,51 @@ pub fn has_argument(rt: &impl Env, i: usize) -> bool {
     !matches!(rt.arg(i, &mut []), Err(FillError::NotPresent))
 }
 
-// An input, or why it could not be opened, and how many bytes name it.
-#[derive(Drop)]
-pub struct Opened {
-    pub source: io::Result<Source>,
-    pub named: usize,
+// The bytes of the longest name that a file is opened by.
+pub const LONGEST_NAME: usize = 4096;
+
+// What an argument names: standard input where it is missing or `-`, and else a file. Of a name that is longer than any file's only the first bytes
+// are there to be said.
+#[derive(Clone, Copy)]
+pub enum Named<'a> {
+    Standard,
+    File(&'a [u8]),
+    TooLong(&'a [u8]),
 }
 
-fn standard_input(rt: &HostRuntime, what: &mut [u8], at: usize) -> Opened
-    requires { at + 4096 ≤ length what.old }
-    ensures { IsPrefixLen result.named what.new }
-{
-    let name = b"standard input";
-    let named = at + name.len();
-    what[at..named].copy_from_slice(name);
-    Opened {
-        source: Ok(Source::Standard(rt.stdin())),
-        named,
-    }
-}
-
-// The library names files by text.
-fn open_file(rt: &HostRuntime, name: &[u8]) -> io::Result<Source> {
-    match str::from_utf8(name) {
-        Ok(path) => Ok(Source::File(File::open(rt, path)?)),
-        Err(_) => Err(io::Error::from(ErrorKind::InvalidFilename)),
-    }
-}
-
-// Opens the file that an argument names, or standard input where it is missing or `-`. The name is put into `what`, behind what stands before `at`. Of
-// a name that is longer than any file's only the first bytes are there to be said.
-pub fn open_argument(rt: &HostRuntime, i: usize, what: &mut [u8], at: usize) -> Opened
-    requires { at + 4096 ≤ length what.old }
-    ensures { IsPrefixLen result.named what.new }
-{
-    match rt.arg(i, &mut what[at..]) {
-        Ok(length) => {
-            if length == 1 && what[at] == b'-' {
-                return standard_input(rt, what, at);
-            }
-            let named = at + length;
-            Opened {
-                source: open_file(rt, &what[at..named]),
-                named,
-            }
+impl<'a> Named<'a> {
+    pub fn by_argument(rt: &impl Env, i: usize, room: &'a mut [u8; LONGEST_NAME]) -> Named<'a>
+        ensures { length (said result) ≤ LONGEST_NAME }
+    {
+        match rt.arg(i, room) {
+            Ok(1) if room[0] == b'-' => Named::Standard,
+            Ok(length) => Named::File(&room[..length]),
+            Err(FillError::NotPresent) => Named::Standard,
+            Err(FillError::TooLong) => Named::TooLong(room),
         }
-        Err(FillError::NotPresent) => standard_input(rt, what, at),
-        Err(FillError::TooLong) => Opened {
-            source: Err(io::Error::from(ErrorKind::InvalidFilename)),
-            named: what.len(),
-        },
+    }
+
+    pub fn as_bytes(&self) -> &[u8]
+        ensures { result.now ≡ said self.now }
+    {
+        match self {
+            Named::Standard => b"standard input",
+            Named::File(name) | Named::TooLong(name) => name,
+        }
+    }
+
+    // The library names files by text.
+    pub fn open(&self, rt: &HostRuntime) -> io::Result<Source>
+        ensures standard { self.now ≡ Named.Standard → IsOkAnd result (λ source. (from : Stdin) × (source ≡ Source.Standard from)) }
+        ensures too_long { IsTooLong self.now → IsErr result }
+    {
+        match self {
+            Named::Standard => Ok(Source::Standard(rt.stdin())),
+            Named::File(name) => match str::from_utf8(name) {
+                Ok(path) => Ok(Source::File(File::open(rt, path)?)),
+                Err(_) => Err(io::Error::from(ErrorKind::InvalidFilename)),
+            },
+            Named::TooLong(_) => Err(io::Error::from(ErrorKind::InvalidFilename)),
+        }
     }
 }

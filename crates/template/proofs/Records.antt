@@ -8,7 +8,7 @@ use lib.ListN.{length, get_or}
 use Rattle.kinds.specs.Kinds.{Legal}
 use Rattle.laws.specs.Lists.{fills}
 use Rattle.laws.proofs.Lists.{fills_all, is_tab}
-use Rattle.kinds.specs.Workers.{Laid}
+use Rattle.kinds.specs.Laid.{Laid}
 use Rattle.kinds.proofs.Table.{layout_at, sane}
 use Rattle.template.specs.Templates.{template_kind, template_role}
 

@@ -6,7 +6,7 @@ ghost use Rattle.answers.specs.Promised.{Meets};
 ghost use Rattle.buffers.specs.Buffers.{Fitting};
 ghost use Rattle.template.specs.Templates.{read_call, write_call};
 
-use answers::{Refusal, Verdict};
+use answers::Refusal;
 use kinds::{Kind, Layout, Role};
 
 // The bytes of a record.
@@ -16,39 +16,39 @@ pub const BYTES: usize = 256;
 pub const WORDS: usize = 64;
 
 // A record to the lane words of its matrix.
-pub fn read(record: &[u8], words: &mut [u32]) -> Verdict
+pub fn read(record: &[u8], words: &mut [u32]) -> Result<(), Refusal>
     ensures { Meets (read_call «record».now words.old) words.old result
         words.new }
 {
     if record.len() != BYTES {
-        return Verdict::Refused(Refusal::WrongLength(0));
+        return Err(Refusal::WrongLength(0));
     }
     if words.len() != WORDS {
-        return Verdict::Refused(Refusal::WrongLength(1));
+        return Err(Refusal::WrongLength(1));
     }
     let f = Layout::of(Kind(3), Role(Role::B));
     let mut matrix: [u64; 256] = [0; 256];
     widen(record, &mut matrix);
-    pack_lanes::fill_words(&matrix, words, f);
-    Verdict::Accepted
+    pack_lanes::fill_words(&matrix, words, &f);
+    Ok(())
 }
 
 // Lane words to the record of their matrix.
-pub fn write(words: &[u32], record: &mut [u8]) -> Verdict
+pub fn write(words: &[u32], record: &mut [u8]) -> Result<(), Refusal>
     ensures { Meets (write_call words.now «record».old) «record».old result
         «record».new }
 {
     if words.len() != WORDS {
-        return Verdict::Refused(Refusal::WrongLength(0));
+        return Err(Refusal::WrongLength(0));
     }
     if record.len() != BYTES {
-        return Verdict::Refused(Refusal::WrongLength(1));
+        return Err(Refusal::WrongLength(1));
     }
     let f = Layout::of(Kind(3), Role(Role::B));
     let mut matrix: [u64; 256] = [0; 256];
-    unpack_lanes::fill(words, &mut matrix, f);
+    unpack_lanes::fill(words, &mut matrix, &f);
     narrow(&matrix, record);
-    Verdict::Accepted
+    Ok(())
 }
 
 fn wide(x: u8) -> u64

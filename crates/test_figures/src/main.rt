@@ -2,315 +2,243 @@
 // figures of document 02's kinds 11 to 14, and of its words and bits.
 #![tactic(auto)]
 
-use answers::Verdict;
+ghost use Rattle.std.specs.Prelude.{◌≤◌};
+
 use kinds::{Column, Element, Kind, Lane, Mode, Role, Row, Signs};
 use places::{Held, Placed};
-use std::io;
-use test_print::{first_other, print_number, print_refusal, print_text, print_word};
+use std::{fmt, io};
+use test_print::first_other;
+
+// Words of four bytes -128, of ones, and the greatest sum.
+const LOW: u32 = 0x80808080;
+
+const ONES: u32 = 0xFFFFFFFF;
+
+const TOP: u32 = 2147483647;
+
+#[derive(Clone, Copy)]
+enum Call {
+    // Kind, signs and mode.
+    Step(u32, u32, u32),
+    // Kind.
+    Plain(u32),
+}
+
+// What is printed before a call's answer, and the word that each of A, B and C holds throughout.
+#[derive(Clone, Copy)]
+struct Figure(&'static str, Call, [u32; 3]);
+
+// Kind, role, lane and element.
+const PLACES: [(u32, u32, u32, u32); 7] = [
+    (5, Role::A, 0, 16),
+    (3, Role::A, 5, 9),
+    (6, Role::A, 5, 1),
+    (8, Role::A, 5, 1),
+    (3, Role::B, 31, 7),
+    (2, Role::C, 6, 3),
+    (10, Role::B, 6, 0),
+];
+
+// Kind, role, row and column.
+const HOLDERS: [(u32, u32, u32, u32); 2] = [(4, Role::A, 9, 13), (9, Role::A, 15, 7)];
+
+const STEPS: [Figure; 9] = [
+    Figure(
+        "kind 3, all A and B -128, C 0, signed",
+        Call::Step(3, 0, 0),
+        [LOW, LOW, 0],
+    ),
+    Figure(
+        "kind 3, all A and B -128, C 0, plain step",
+        Call::Plain(3),
+        [LOW, LOW, 0],
+    ),
+    Figure(
+        "kind 3, all A and B -128, C 2147483647, wrapped",
+        Call::Step(3, 0, 0),
+        [LOW, LOW, TOP],
+    ),
+    Figure(
+        "kind 3, all A and B -128, C 2147483647, clamped",
+        Call::Step(3, 0, 1),
+        [LOW, LOW, TOP],
+    ),
+    Figure(
+        "kind 1, A all ones, B zero, C 0, xor",
+        Call::Step(1, 0, 0),
+        [ONES, 0, 0],
+    ),
+    Figure(
+        "kind 1, A all ones, B zero, C 0, and",
+        Call::Step(1, 0, 1),
+        [ONES, 0, 0],
+    ),
+    Figure(
+        "kind 1, A all ones, B zero, C 2147483647, xor",
+        Call::Step(1, 0, 0),
+        [ONES, 0, TOP],
+    ),
+    Figure(
+        "kind 2, A all FF, B all 1, C 0, signs 0",
+        Call::Step(2, 0, 0),
+        [ONES, 0x01010101, 0],
+    ),
+    Figure(
+        "kind 2, A all FF, B all 1, C 0, signs 1",
+        Call::Step(2, 1, 0),
+        [ONES, 0x01010101, 0],
+    ),
+];
+
+const LATER_PLACES: [(u32, u32, u32, u32); 3] = [
+    (14, Role::A, 31, 127),
+    (13, Role::A, 5, 33),
+    (12, Role::B, 31, 7),
+];
+
+const LATER_STEPS: [Figure; 7] = [
+    Figure(
+        "kind 11, all A and B -128, C 0, signed",
+        Call::Step(11, 0, 0),
+        [LOW, LOW, 0],
+    ),
+    Figure(
+        "kind 12, all A and B -8, C 0, signed",
+        Call::Step(12, 0, 0),
+        [0x88888888, 0x88888888, 0],
+    ),
+    Figure(
+        "kind 12, all A and B F, C 0, unsigned",
+        Call::Step(12, 3, 0),
+        [ONES, ONES, 0],
+    ),
+    Figure(
+        "kind 13, A all ones, B zero, C 0, xor",
+        Call::Step(13, 0, 0),
+        [ONES, 0, 0],
+    ),
+    Figure(
+        "kind 13, A all ones, B zero, C 0, and",
+        Call::Step(13, 0, 1),
+        [ONES, 0, 0],
+    ),
+    Figure(
+        "kind 14, A all ones, B zero, C 0, xor",
+        Call::Step(14, 0, 0),
+        [ONES, 0, 0],
+    ),
+    Figure(
+        "kind 14, A and B all ones, C 0, and",
+        Call::Step(14, 0, 1),
+        [ONES, ONES, 0],
+    ),
+];
+
+const SPOTS: [(u32, u32, u32, u32); 3] = [
+    (9, Role::A, 0, 3),
+    (7, Role::C, 0, 3),
+    (14, Role::A, 0, 127),
+];
 
 fn main(rt: HostRuntime) -> io::Result<()> {
-    places(&rt)?;
-    reverse(&rt)?;
-    bytes(&rt)?;
-    ones(&rt)?;
-    signs(&rt)?;
-    later_places(&rt)?;
-    later_bytes(&rt)?;
-    later_ones(&rt)?;
-    spots(&rt)
+    places(&rt, &PLACES)?;
+    holders(&rt)?;
+    steps(&rt, &STEPS)?;
+    places(&rt, &LATER_PLACES)?;
+    steps(&rt, &LATER_STEPS)?;
+    places(&rt, &SPOTS)
 }
 
-fn places(rt: &impl Print) -> io::Result<()> {
-    place(rt, 5, Role::A, 0, 16)?;
-    place(rt, 3, Role::A, 5, 9)?;
-    place(rt, 6, Role::A, 5, 1)?;
-    place(rt, 8, Role::A, 5, 1)?;
-    place(rt, 3, Role::B, 31, 7)?;
-    place(rt, 2, Role::C, 6, 3)?;
-    place(rt, 10, Role::B, 6, 0)
-}
-
-fn reverse(rt: &impl Print) -> io::Result<()> {
-    find(rt, 4, Role::A, 9, 13)?;
-    find(rt, 9, Role::A, 15, 7)
-}
-
-fn bytes(rt: &impl Print) -> io::Result<()> {
-    byte_step(rt, b"kind 3, all A and B -128, C 0, signed: ", 0, 0)?;
-    plain_step(rt, b"kind 3, all A and B -128, C 0, plain step: ")?;
-    byte_step(
-        rt,
-        b"kind 3, all A and B -128, C 2147483647, wrapped: ",
-        2147483647,
-        0,
-    )?;
-    byte_step(
-        rt,
-        b"kind 3, all A and B -128, C 2147483647, clamped: ",
-        2147483647,
-        1,
-    )
-}
-
-fn ones(rt: &impl Print) -> io::Result<()> {
-    ones_step(rt, b"kind 1, A all ones, B zero, C 0, xor: ", 0, 0)?;
-    ones_step(rt, b"kind 1, A all ones, B zero, C 0, and: ", 0, 1)?;
-    ones_step(
-        rt,
-        b"kind 1, A all ones, B zero, C 2147483647, xor: ",
-        2147483647,
-        0,
-    )
-}
-
-fn signs(rt: &impl Print) -> io::Result<()> {
-    signs_step(rt, b"kind 2, A all FF, B all 1, C 0, signs 0: ", 0)?;
-    signs_step(rt, b"kind 2, A all FF, B all 1, C 0, signs 1: ", 1)
-}
-
-fn later_places(rt: &impl Print) -> io::Result<()> {
-    place(rt, 14, Role::A, 31, 127)?;
-    place(rt, 13, Role::A, 5, 33)?;
-    place(rt, 12, Role::B, 31, 7)
-}
-
-fn later_bytes(rt: &impl Print) -> io::Result<()> {
-    narrow_step(
-        rt,
-        b"kind 11, all A and B -128, C 0, signed: ",
-        11,
-        0,
-        0x80808080,
-    )?;
-    narrow_step(
-        rt,
-        b"kind 12, all A and B -8, C 0, signed: ",
-        12,
-        0,
-        0x88888888,
-    )?;
-    narrow_step(
-        rt,
-        b"kind 12, all A and B F, C 0, unsigned: ",
-        12,
-        3,
-        0xFFFFFFFF,
-    )
-}
-
-fn later_ones(rt: &impl Print) -> io::Result<()> {
-    tall_step(rt, b"kind 13, A all ones, B zero, C 0, xor: ", 0)?;
-    tall_step(rt, b"kind 13, A all ones, B zero, C 0, and: ", 1)?;
-    long_step(rt, b"kind 14, A all ones, B zero, C 0, xor: ", 0, 0)?;
-    long_step(rt, b"kind 14, A and B all ones, C 0, and: ", 1, 0xFFFFFFFF)
-}
-
-fn spots(rt: &impl Print) -> io::Result<()> {
-    place(rt, 9, Role::A, 0, 3)?;
-    place(rt, 7, Role::C, 0, 3)?;
-    place(rt, 14, Role::A, 0, 127)
-}
-
-fn place(rt: &impl Print, kind: u32, role: u32, lane: u32, element: u32) -> io::Result<()> {
-    print_matrix(rt, kind, role)?;
-    print_pair(rt, b"lane ", lane, b" element ", element, b": ")?;
-    print_placed(
-        rt,
-        places::place(Kind(kind), Role(role), Lane(lane), Element(element)),
-    )
-}
-
-fn print_placed(rt: &impl Print, placed: Placed) -> io::Result<()> {
-    match placed {
-        Placed::At(row, column, word, bit) => {
-            print_pair(rt, b"(", row.0, b", ", column.0, b")")?;
-            print_pair(rt, b" word ", word.0, b" bit ", bit.0, b"")?;
+fn places(rt: &impl Print, asked: &[(u32, u32, u32, u32)]) -> io::Result<()> {
+    for &(kind, role, lane, element) in asked {
+        let placed = places::place(Kind(kind), Role(role), Lane(lane), Element(element));
+        print!(rt;
+            "kind {kind} {} lane {lane} element {element}: ",
+            letter(role)
+        )?;
+        match placed {
+            Ok(at) => {
+                let Placed {
+                    row,
+                    column,
+                    word,
+                    bit,
+                } = at;
+                println!(rt; "({}, {}) word {} bit {}", row.0, column.0, word.0, bit.0)?;
+            }
+            Err(refusal) => println!(rt; "{refusal}")?,
         }
-        Placed::Refused(refusal) => print_refusal(rt, refusal)?,
     }
-    print_text(rt, b"\n")
+    Ok(())
 }
 
-fn print_matrix(rt: &impl Print, kind: u32, role: u32) -> io::Result<()> {
-    print_number(rt, b"kind ", kind as u64)?;
-    if role == Role::A {
-        print_text(rt, b" A ")
-    } else if role == Role::B {
-        print_text(rt, b" B ")
-    } else {
-        print_text(rt, b" C ")
+fn letter(role: u32) -> char {
+    match role {
+        Role::A => 'A',
+        Role::B => 'B',
+        _ => 'C',
     }
 }
 
-fn print_pair(
+fn holders(rt: &impl Print) -> io::Result<()> {
+    for (kind, role, row, column) in HOLDERS {
+        let held = places::find(Kind(kind), Role(role), Row(row), Column(column));
+        print!(rt; "kind {kind} {} ({row}, {column}): ", letter(role))?;
+        match held {
+            Ok(Held { lane, element }) => println!(rt; "lane {} element {}", lane.0, element.0)?,
+            Err(refusal) => println!(rt; "{refusal}")?,
+        }
+    }
+    Ok(())
+}
+
+// By the lengths of the kind's buffers.
+fn steps(rt: &impl Print, figures: &[Figure]) -> io::Result<()> {
+    for figure in figures {
+        match figure.1 {
+            Call::Step(1 | 11 | 12, ..) => step::<32, 32, 64>(rt, *figure)?,
+            Call::Step(2 | 13, ..) => step::<64, 32, 128>(rt, *figure)?,
+            _ => step::<128, 64, 128>(rt, *figure)?,
+        }
+    }
+    Ok(())
+}
+
+fn step<const A: usize, const B: usize, const C: usize>(
     rt: &impl Print,
-    before: &[u8],
-    x: u32,
-    between: &[u8],
-    y: u32,
-    after: &[u8],
-) -> io::Result<()> {
-    print_number(rt, before, x as u64)?;
-    print_number(rt, between, y as u64)?;
-    print_text(rt, after)
-}
-
-fn find(rt: &impl Print, kind: u32, role: u32, row: u32, column: u32) -> io::Result<()> {
-    print_matrix(rt, kind, role)?;
-    print_pair(rt, b"(", row, b", ", column, b"): ")?;
-    print_held(
-        rt,
-        places::find(Kind(kind), Role(role), Row(row), Column(column)),
-    )
-}
-
-fn print_held(rt: &impl Print, held: Held) -> io::Result<()> {
-    match held {
-        Held::By(lane, element) => print_pair(rt, b"lane ", lane.0, b" element ", element.0, b"")?,
-        Held::Refused(refusal) => print_refusal(rt, refusal)?,
+    figure: Figure,
+) -> io::Result<()>
+    requires { (A ≤ 128) × (B ≤ 64) × (C ≤ 128) }
+{
+    let Figure(what, call, [a, b, c]) = figure;
+    let a = [a; A];
+    let b = [b; B];
+    let c = [c; C];
+    let mut d = [7; C];
+    let answer = match call {
+        Call::Step(kind, signs, mode) => {
+            step::step(Kind(kind), Signs(signs), Mode(mode), &a, &b, &c, &mut d)
+        }
+        Call::Plain(kind) => step::plain_step(Kind(kind), &a, &b, &c, &mut d),
+    };
+    match answer {
+        Ok(()) => println!(rt; "{what}: {}", Sums(&d)),
+        Err(refusal) => println!(rt; "{what}: {refusal}"),
     }
-    print_text(rt, b"\n")
 }
 
-fn byte_step(rt: &impl Print, what: &[u8], c: u32, mode: u32) -> io::Result<()> {
-    let mut d: [u32; 128] = [7; 128];
-    print_text(rt, what)?;
-    step(
-        rt,
-        3,
-        0,
-        mode,
-        &[0x80808080; 128],
-        &[0x80808080; 64],
-        &[c; 128],
-        &mut d,
-    )
-}
+// The number that all sums have.
+#[derive(Clone, Copy)]
+struct Sums<'a>(&'a [u32]);
 
-fn plain_step(rt: &impl Print, what: &[u8]) -> io::Result<()> {
-    let mut d: [u32; 128] = [7; 128];
-    let verdict = step::plain_step(
-        Kind(3),
-        &[0x80808080; 128],
-        &[0x80808080; 64],
-        &[0; 128],
-        &mut d,
-    );
-    print_text(rt, what)?;
-    print_result(rt, verdict, &d)
-}
-
-fn ones_step(rt: &impl Print, what: &[u8], c: u32, mode: u32) -> io::Result<()> {
-    let mut d: [u32; 64] = [7; 64];
-    print_text(rt, what)?;
-    step(
-        rt,
-        1,
-        0,
-        mode,
-        &[0xFFFFFFFF; 32],
-        &[0; 32],
-        &[c; 64],
-        &mut d,
-    )
-}
-
-fn signs_step(rt: &impl Print, what: &[u8], signs: u32) -> io::Result<()> {
-    let mut d: [u32; 128] = [7; 128];
-    print_text(rt, what)?;
-    step(
-        rt,
-        2,
-        signs,
-        0,
-        &[0xFFFFFFFF; 64],
-        &[0x01010101; 32],
-        &[0; 128],
-        &mut d,
-    )
-}
-
-// Kinds 11 and 12, every word of A and B the same.
-fn narrow_step(rt: &impl Print, what: &[u8], kind: u32, signs: u32, word: u32) -> io::Result<()> {
-    let mut d: [u32; 64] = [7; 64];
-    print_text(rt, what)?;
-    step(
-        rt,
-        kind,
-        signs,
-        0,
-        &[word; 32],
-        &[word; 32],
-        &[0; 64],
-        &mut d,
-    )
-}
-
-// Kind 13, and kind 14 with every word of B the same.
-fn tall_step(rt: &impl Print, what: &[u8], mode: u32) -> io::Result<()> {
-    let mut d: [u32; 128] = [7; 128];
-    print_text(rt, what)?;
-    step(
-        rt,
-        13,
-        0,
-        mode,
-        &[0xFFFFFFFF; 64],
-        &[0; 32],
-        &[0; 128],
-        &mut d,
-    )
-}
-
-fn long_step(rt: &impl Print, what: &[u8], mode: u32, b: u32) -> io::Result<()> {
-    let mut d: [u32; 128] = [7; 128];
-    print_text(rt, what)?;
-    step(
-        rt,
-        14,
-        0,
-        mode,
-        &[0xFFFFFFFF; 128],
-        &[b; 64],
-        &[0; 128],
-        &mut d,
-    )
-}
-
-fn step(
-    rt: &impl Print,
-    kind: u32,
-    signs: u32,
-    mode: u32,
-    a: &[u32],
-    b: &[u32],
-    c: &[u32],
-    d: &mut [u32],
-) -> io::Result<()> {
-    let verdict = step::step(Kind(kind), Signs(signs), Mode(mode), a, b, c, d);
-    print_result(rt, verdict, d)
-}
-
-fn print_result(rt: &impl Print, verdict: Verdict, d: &[u32]) -> io::Result<()> {
-    match verdict {
-        Verdict::Accepted => print_words(rt, d)?,
-        Verdict::Refused(refusal) => print_refusal(rt, refusal)?,
-    }
-    print_text(rt, b"\n")
-}
-
-// The number that all words have.
-fn print_words(rt: &impl Print, words: &[u32]) -> io::Result<()> {
-    let n = words.len();
-    if n == 0 {
-        return Ok(());
-    }
-    let w = words[0];
-    if first_other(words, w) == n {
-        print_word(rt, w)?;
-        print_number(rt, b" at all ", n as u64)?;
-        print_text(rt, b" places")
-    } else {
-        print_text(rt, b"differs")
+impl fmt::Display for Sums<'_> {
+    fn fmt<W: fmt::Write>(&self, f: &mut fmt::Formatter<W>) -> fmt::Result {
+        let n = self.0.len();
+        match self.0 {
+            [w, ..] if first_other(self.0, *w).is_none() => {
+                write!(f, "{} at all {n} places", w.cast_signed())
+            }
+            _ => write!(f, "differs"),
+        }
     }
 }

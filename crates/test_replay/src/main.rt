@@ -5,7 +5,6 @@
 ghost use Rattle.std.specs.Prelude.{◌+◌, ◌^◌, ◌<◌};
 
 use std::io;
-use test_print::print_text;
 
 fn lines(rt: &impl Print, number: u64) -> io::Result<()>
     requires { number + 2 < 2 ^ 64 }
@@ -18,7 +17,7 @@ fn lines(rt: &impl Print, number: u64) -> io::Result<()>
     bytes[3096] = 1;
     bytes[3600] = 3;
     let end = replay_text::put_lines(number, &bytes, &mut text);
-    print_text(rt, &text[..end])
+    rt.write_all(&text[..end])
 }
 
 fn main(rt: HostRuntime) -> io::Result<()> {

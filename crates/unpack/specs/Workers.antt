@@ -2,8 +2,7 @@
 use Rattle.std.specs.Prelude.{ℕ, ◌*◌, List, length}
 use Rattle.answers.specs.Calls.{Call}
 use Rattle.kinds.specs.Kinds.{lanes}
-use Rattle.kinds.specs.Rule.{rows_of, columns_of}
-use Rattle.kinds.specs.declared.Layout.{Layout}
+use Rattle.kinds.specs.Rule.{Layout, rows_of, columns_of}
 use Rattle.buffers.specs.Buffers.{unpacked}
 use Rattle.unpack.specs.UnpackCall.{length_refusals}
 

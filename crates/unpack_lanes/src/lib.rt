@@ -4,12 +4,13 @@
 ghost use Rattle.std.specs.Prelude.{◌≡◌, ℕ, ◌+◌, ◌*◌, ◌^◌, ◌<◌, ◌≤◌, length, get_or};
 ghost use Rattle.laws.specs.Fields.{field};
 ghost use Rattle.kinds.specs.Kinds.{lanes};
-ghost use Rattle.laws.specs.Toward.{stores, Brings, Below};
-ghost use Rattle.buffers.specs.Buffers.{words_from, unpacked};
-ghost use Rattle.buffers.specs.Stretches.{size_of, stretches_of, OfLane, OfQuad};
-ghost use Rattle.unpack_lanes.specs.Workers.{Unpacks};
+ghost use Rattle.laws.specs.Toward.{stores};
+ghost use Rattle.kinds.specs.Rule.{rows_of, columns_of};
+ghost use Rattle.buffers.specs.Buffers.{words_from, unpacked, Fitting};
+ghost use Rattle.buffers.specs.Stretches.{size_of, OfLane};
 
-use buffers::{Quad, Stretch};
+use buffers::Stretch;
+use buffers::walk::{self, Filling};
 use kinds::{Lane, Layout};
 
 // Word k, as a wider number.
@@ -26,10 +27,10 @@ fn scatter(matrix: &mut [u64], word: u64, bits: usize, side: usize, base: usize,
     requires by_index { (j : ℕ) → j < side → base + j * step < length matrix.old }
     ensures { matrix.new ≡ stores base step side (λ j. field bits j word) matrix.old }
 {
-    let mut j = 0;
-    while j < side {
-        matrix[base + j * step] = buffers::field_of(word, bits, j);
-        j += 1;
+    let mut rest = word;
+    for j in 0..side {
+        matrix[base + j * step] = rest % (1 << bits);
+        rest >>= bits;
     }
 }
 
@@ -46,47 +47,52 @@ fn element(words: &[u32], bits: usize, k: usize) -> u64
     low
 }
 
-// One stretch of a lane: the fields of a word, or one element.
-fn fill_lane(words: &[u32], matrix: &mut [u64], f: Layout, stretch: Stretch, lane: Lane)
-    requires { Unpacks f words.now matrix.old × (stretch.0 < stretches_of f) × (lane.0 < lanes) }
-    ensures { Brings (unpacked f words.now) (OfLane f (size_of f) stretch.0 lane.0)
-        matrix.old matrix.new }
-{
-    let base = buffers::base_of(f, stretch, lane);
-    let k = lane.0 as usize * f.words + buffers::word_of(f, stretch);
-    if f.bits < 32 {
-        let step = buffers::step_of(f);
-        return scatter(matrix, word(words, k), f.bits, f.side, base, step);
-    }
-    matrix[base] = element(words, f.bits, k);
+// Lane words that a layout unpacks.
+#[derive(Clone, Copy)]
+struct Unpacking<'a> {
+    words: &'a [u32],
+    layout: &'a Layout,
+    ghost whole: { length words.now ≡ lanes * layout.now.words },
+    ghost fitting: { Fitting 32 words.now },
 }
 
-// The same stretch of a quad's lanes, and of every quad's.
-fn fill_quad(words: &[u32], matrix: &mut [u64], f: Layout, stretch: Stretch, quad: Quad)
-    requires { Unpacks f words.now matrix.old × (stretch.0 < stretches_of f) × (quad.0 < 8) }
-    ensures { Brings (unpacked f words.now) (OfQuad f (size_of f) stretch.0 quad.0)
-        matrix.old matrix.new }
-{
-    for t in 0..Lane::QUAD {
-        fill_lane(words, matrix, f, stretch, quad.lane(t));
+impl Filling for Unpacking<'_> {
+    ghost use Rattle.buffers.proofs.Round.{unpacked_length};
+    ghost use Rattle.buffers.proofs.Stretches.{place_covered};
+
+    type Item = u64;
+
+    ghost layout = { λ s. s.layout.now };
+
+    ghost target = { λ s. unpacked s.layout.now s.words.now };
+
+    ghost held = { λ xs. xs };
+
+    ghost Part = { λ s. OfLane s.layout.now (size_of s.layout.now) };
+
+    ghost covers = { λ s laid x h. place_covered s.layout.now laid x (rw (unpacked_length s.layout.now s.words.now) at h) };
+
+    fn layout(&self) -> &Layout {
+        self.layout
+    }
+
+    // The fields of a word, or one element.
+    fn fill_lane(&self, matrix: &mut [u64], stretch: Stretch, lane: Lane) {
+        let f = self.layout;
+        let base = stretch.base(f, lane);
+        let k = lane.0 as usize * f.words + stretch.word(f);
+        if f.bits < 32 {
+            let step = Stretch::step(f);
+            return scatter(matrix, word(self.words, k), f.bits, f.side, base, step);
+        }
+        matrix[base] = element(self.words, f.bits, k);
     }
 }
 
-fn fill_quads(words: &[u32], matrix: &mut [u64], f: Layout, stretch: Stretch)
-    requires { Unpacks f words.now matrix.old × (stretch.0 < stretches_of f) }
-    ensures { Brings (unpacked f words.now) (Below 8 (OfQuad f (size_of f) stretch.0))
-        matrix.old matrix.new }
+// A matrix filled from lane words.
+pub fn fill(words: &[u32], matrix: &mut [u64], f: &Layout)
+    requires { (length words.now ≡ lanes * f.now.words) × (length matrix.old ≡ rows_of f.now * columns_of f.now) }
+    ensures { matrix.new ≡ unpacked f.now words.now }
 {
-    for quad in 0..Quad::COUNT {
-        fill_quad(words, matrix, f, stretch, Quad(quad));
-    }
-}
-
-pub fn fill(words: &[u32], matrix: &mut [u64], f: Layout)
-    requires { Unpacks f words.now matrix.old }
-    ensures { matrix.new ≡ unpacked f words.now }
-{
-    for stretch in 0..buffers::stretches_in(f) {
-        fill_quads(words, matrix, f, Stretch(stretch));
-    }
+    walk::fill(&Unpacking { words, layout: f }, matrix);
 }

@@ -2,9 +2,8 @@
 use mathlib.Core.Path.{◌≡◌, refl}
 use mathlib.Core.List.{List}
 use Prim.Native.Nat.{ℕ}
-use Rattle.answers.specs.Refusals.{told, after}
+use Rattle.answers.specs.Refusals.{told, after, Verdict}
 use Rattle.answers.specs.Promised.{Meets, code_of, Coded}
-use Rattle.answers.specs.declared.Verdict.{Verdict}
 use Rattle.answers.proofs.Codes.{coded_as, left_after, on_same}
 use Rattle.run.specs.declared.Run.{Run}
 use Rattle.run.specs.RunCalls.{feed_call, read_call, marks_call}

@@ -13,7 +13,6 @@ ghost use Rattle.answers.specs.Promised.{Coded};
 ghost use Rattle.words.specs.Words.{four_of, pair_of, words_of, open_in_words, feed_in_words, read_in_words, marks_in_words};
 
 use kinds::{Column, Element, Kind, Lane, Mode, Role, Row, Signs};
-use places::{Held, Placed};
 use run::Run;
 use scale::{ByteId, Side, Size, ThreadId};
 
@@ -23,11 +22,11 @@ pub extern "C" fn wz_place(kind: u32, role: u32, lane: u32, element: u32, out: &
     ensures { Coded (giving four_of (place_call kind role lane element)) out.old result out.new }
 {
     match places::place(Kind(kind), Role(role), Lane(lane), Element(element)) {
-        Placed::At(row, column, word, bit) => {
-            words::put_four(out, row.0, column.0, word.0, bit.0);
+        Ok(p) => {
+            words::put_four(out, p.row.0, p.column.0, p.word.0, p.bit.0);
             0
         }
-        Placed::Refused(refusal) => words::code(refusal),
+        Err(refusal) => words::code(refusal),
     }
 }
 
@@ -37,11 +36,11 @@ pub extern "C" fn wz_find(kind: u32, role: u32, row: u32, column: u32, out: &mut
     ensures { Coded (giving pair_of (find_call kind role row column)) out.old result out.new }
 {
     match places::find(Kind(kind), Role(role), Row(row), Column(column)) {
-        Held::By(lane, element) => {
-            words::put_pair(out, lane.0, element.0);
+        Ok(h) => {
+            words::put_pair(out, h.lane.0, h.element.0);
             0
         }
-        Held::Refused(refusal) => words::code(refusal),
+        Err(refusal) => words::code(refusal),
     }
 }
 
@@ -101,10 +100,8 @@ pub extern "C" fn wz_open(
     ensures { Coded (open_in_words kind signs mode c.now) (words_of zero_run) result words.new }
 {
     let opened = Run::open(Kind(kind), Signs(signs), Mode(mode), c);
-    let run = opened.run;
-    let verdict = opened.verdict;
-    words::put(run, words);
-    words::code_of(verdict)
+    words::put(opened.run, words);
+    words::code_of(opened.verdict)
 }
 
 // The run with one block more.
@@ -122,8 +119,7 @@ pub extern "C" fn wz_feed(words: &mut [u32; 136], a: &[u32], b: &[u32]) -> u64
 pub extern "C" fn wz_read(words: &[u32; 136], d: &mut [u32]) -> u64
     ensures { Coded (read_in_words words.now d.old) d.old result d.new }
 {
-    let verdict = words::taken(words).read(d).verdict;
-    words::code_of(verdict)
+    words::code_of(words::taken(words).read(d).verdict)
 }
 
 // The marks of the sums, four words.
@@ -132,8 +128,7 @@ pub extern "C" fn wz_marks(words: &[u32; 136], marks: &mut [u32]) -> u64
     ensures { Coded (marks_in_words words.now marks.old) marks.old result
         marks.new }
 {
-    let verdict = words::taken(words).marks(marks).verdict;
-    words::code_of(verdict)
+    words::code_of(words::taken(words).marks(marks).verdict)
 }
 
 // The exponents of the chosen bytes.

@@ -7,10 +7,9 @@ use Prim.Native.Nat.{ℕ, ◌/◌, ◌%◌, ◌^◌, ◌<◌, ◌≤◌}
 use native.Mathlib.Omega.{arith}
 use lib.ListN.{length, take-append-drop}
 use lib.Seq.{take_at, drop_at}
-use Rattle.answers.specs.Refusals.{Answer, given, refusal, told, after}
+use Rattle.std.specs.Prelude.{Ok, Err}
+use Rattle.answers.specs.Refusals.{Answer, given, refusal, told, after, Verdict}
 use Rattle.answers.proofs.Refusals.{number_range}
-use Rattle.answers.specs.declared.Verdict.{Verdict}
-use Rattle.answers.specs.declared.Verdict.TheVariants.{Accepted, Refused}
 use Rattle.run.specs.declared.Run.{Run}
 use Rattle.run.specs.Runs.{run_of, opened_run, zero_run, fed_run, used_of}
 use Rattle.run.specs.RunCalls.{open_answer, feed_answer, read_answer, marks_answer}
@@ -87,6 +86,6 @@ pub code_detail : (n d : ℕ) → n < 2 ^ 32 → code_of {X = Unit {0}} (refusal
 code_detail n d h = omega arith
 
 -- and it is 0 exactly where the call was accepted.
-pub code_accepted : (v : Verdict) → (code_of (told v) ≡ 0) ↔ (v ≡ Accepted)
-code_accepted Accepted = (λ e. refl, λ e. refl)
-code_accepted (Refused x) = (λ e. absurd (omega (arith, number_range x)), λ e. absurd (let z : ◌≡◌ {A = ℕ} 0 1 = cc in omega arith))
+pub code_accepted : (v : Verdict) → (code_of (told v) ≡ 0) ↔ (v ≡ (Ok tt))
+code_accepted (Ok x) = (λ e. refl, λ e. refl)
+code_accepted (Err x) = (λ e. absurd (omega (arith, number_range x)), λ e. absurd (let z : ◌≡◌ {A = ℕ} 0 1 = cc in omega arith))

@@ -6,7 +6,7 @@ ghost use Rattle.answers.specs.Refusals.{number_of, detail_of, told, after};
 ghost use Rattle.answers.specs.Promised.{code_of};
 ghost use Rattle.words.specs.Words.{run_in, words_of};
 
-use answers::{Refusal, Verdict};
+use answers::Refusal;
 use kinds::{Kind, Mode, Signs};
 use run::{Handed, Run};
 
@@ -17,12 +17,12 @@ pub fn code(refusal: Refusal) -> u64
     refusal.number() as u64 + refusal.detail() as u64 * 4294967296
 }
 
-pub fn code_of(verdict: Verdict) -> u64
+pub fn code_of(verdict: Result<(), Refusal>) -> u64
     ensures { result ≡ code_of (told verdict) }
 {
     match verdict {
-        Verdict::Accepted => 0,
-        Verdict::Refused(refusal) => code(refusal),
+        Ok(()) => 0,
+        Err(refusal) => code(refusal),
     }
 }
 
@@ -42,8 +42,8 @@ pub fn taken(words: &[u32]) -> Run
 {
     let mut sums: [u32; 128] = [0; 128];
     let mut marks: [u32; 4] = [0; 4];
-    buffers::copy(&words[4..132], &mut sums);
-    buffers::copy(&words[132..136], &mut marks);
+    sums.copy_from_slice(&words[4..132]);
+    marks.copy_from_slice(&words[132..136]);
     Run {
         kind: Kind(words[0]),
         signs: Signs(words[1]),
@@ -71,10 +71,8 @@ pub fn put(run: Run, words: &mut [u32])
     requires { length words.old ≡ 136 }
     ensures { words.new ≡ words_of run }
 {
-    let sums = run.sums;
-    let marks = run.marks;
-    buffers::copy(&sums, &mut words[4..132]);
-    buffers::copy(&marks, &mut words[132..136]);
+    words[4..132].copy_from_slice(&run.sums);
+    words[132..136].copy_from_slice(&run.marks);
     put_four(words, run.kind.0, run.signs.0, run.mode.0, run.blocks);
 }
 
@@ -84,13 +82,11 @@ pub fn put_fed(fed: Handed, words: &mut [u32]) -> u64
     ensures code { result ≡ code_of (told fed.verdict) }
     ensures left { words.new ≡ after (told fed.verdict) (words_of fed.run) words.old }
 {
-    let run = fed.run;
-    let verdict = fed.verdict;
-    match verdict {
-        Verdict::Accepted => {
-            put(run, words);
+    match fed.verdict {
+        Ok(()) => {
+            put(fed.run, words);
             0
         }
-        Verdict::Refused(refusal) => code(refusal),
+        Err(refusal) => code(refusal),
     }
 }

@@ -1,13 +1,9 @@
 -- A shift is a division by a power of two, and 1 << b is 2 ^ b; the field starts below bit 32. Assumes nothing.
 use Rattle.std.proofs.Common.{ℕ, ◌≡◌, ◌∙◌, ap, ◌*◌, ◌/◌, ◌%◌, ◌^◌, ◌<◌, arith}
-use Rattle.std.proofs.Math.Nat.{one-mul, mod-eq_of_lt}
-use Rattle.std.proofs.Math.Pow.{pow-lt}
 use Rattle.laws.specs.Fields.{field}
 use Rattle.kinds.proofs.Spots.{bit_first}
+use Rattle.buffers.proofs.Elements.{one_shl}
 use Rattle.buffers.proofs.field_of.Goals as goal
-
-one_shl : (b : ℕ) → b < 64 → 1 * 2 ^ b % 2 ^ 64 ≡ 2 ^ b
-one_shl b l = rw one-mul (mod-eq_of_lt (pow-lt l))
 
 pub returns : goal.returns
 unfolding field

@@ -1,12 +1,17 @@
--- What came of the rest stands behind what came first. Assumes nothing.
+-- What a read brought stands behind what had come. Assumes nothing.
 use Rattle.std.proofs.Common.{rules}
-use Rattle.lookup.proofs.Moved.{moved_joined, all_joined}
+use Rattle.lookup.proofs.Moved.{moved_joined}
 use Rattle.lookup.proofs.read_some.Goals as goal
 
-pub returns-clause-moved : goal.returns-clause-moved
-returns-clause-moved g c =
-    moved_joined _ _ _ _ _ _ _ (search rules) (search rules) _ c.read_once-first.ensures.moved c.read_rest-rest.ensures.moved
-
-pub returns-clause-short : goal.returns-clause-short
-returns-clause-short g c sound short =
-    all_joined _ _ _ _ _ _ _ (search rules) (search rules) c.read_once-first.ensures.moved (c.read_rest-rest.ensures.all sound (search rules))
+pub loop-bytes-preserved : goal.loop-bytes-preserved
+loop-bytes-preserved g c =
+    let l = c.loop-bytes in
+    let read = c.in-Ok.ensures in record {
+      below = search rules;
+      in_bounds = search rules;
+      ends_record = search rules;
+      room = search rules;
+      moved =
+          moved_joined l.bytes l.whole l.input c.read_behind.new.input _ l.invariant.below read.input_unchanged _ _ _ c.in-Ok.held (search rules) (search rules)
+          l.invariant.moved read.moved;
+    }

@@ -2,10 +2,11 @@
 use Rattle.std.proofs.Common.{◌<◌, arith}
 use Rattle.kinds.specs.Kinds.{lanes}
 use Rattle.answers.proofs.Shows.{tells}
+use Rattle.kinds.proofs.Table.{by_fields}
 use Rattle.places.proofs.Limits.{second_decides, past_element}
 use Rattle.places.proofs.element_outside.Goals as goal
 
 pub returns-else-lane-ge-COUNT : goal.returns-else-lane-ge-COUNT
 returns-else-lane-ge-COUNT c =
     let in_warp : c.args.lane.0 < lanes = omega arith in
-    tells _ _ (second_decides lanes _ in_warp (past_element c.args.f c.requires _))
+    rw (← c.f.view_is) (tells _ _ (second_decides lanes _ in_warp (past_element (by_fields c.f.inside) c.f.invariant _)))

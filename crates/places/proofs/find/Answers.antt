@@ -4,18 +4,11 @@ use Rattle.std.proofs.Common.{sym, ap, ◌∙◌, Bool}
 use Rattle.answers.specs.Calls.{answer}
 use Rattle.answers.proofs.Shows.{replies}
 use Rattle.answers.proofs.Demand1.{reply_is}
-use Rattle.kinds.specs.Rule.{turn}
+use Rattle.kinds.specs.Rule.{Layout, turn}
 use Rattle.places.specs.PlaceCalls.{find_answer}
 use Rattle.places.specs.Workers.{find_call_in}
-use Rattle.kinds.proofs.Judged.{known_sane}
 use Rattle.places.proofs.ByRule.{known_found}
 use Rattle.places.proofs.find.Goals as goal
-
-pub find_in-requires : goal.find_in-requires
-find_in-requires c = known_sane _ _ _ c.layout_of.ensures _ c.in_ok-f.was
-
-pub find_in-requires-else-f : goal.find_in-requires-else-f
-find_in-requires-else-f c = known_sane _ _ _ c.layout_of.ensures _ c.in_ok-f.was
 
 pub returns-then-f : goal.returns-then-f
 unfolding find_answer
@@ -23,7 +16,7 @@ returns-then-f c =
     let a = c.args in
     replies
     (reply_is c.find_in.ensures
-    ∙ ap (λ (t : Bool). answer (find_call_in c.in_ok-f.f (turn t (a.row.0, a.column.0)))) (sym c.if-f.true)
+    ∙ ap (λ (t : Bool). answer (find_call_in c.in_ok-f.f (turn t (a.row.0, a.column.0)))) (sym c.if-f.true ∙ ap (λ (f : Layout). f.turned) c.f.view_is)
     ∙ known_found _ _ _ c.layout_of.ensures _ c.in_ok-f.was _ _)
 
 pub returns-else-f : goal.returns-else-f
@@ -32,5 +25,5 @@ returns-else-f c =
     let a = c.args in
     replies
     (reply_is c.find_in-else-f.ensures
-    ∙ ap (λ (t : Bool). answer (find_call_in c.in_ok-f.f (turn t (a.row.0, a.column.0)))) (sym c.if-f.false)
+    ∙ ap (λ (t : Bool). answer (find_call_in c.in_ok-f.f (turn t (a.row.0, a.column.0)))) (sym c.if-f.false ∙ ap (λ (f : Layout). f.turned) c.f.view_is)
     ∙ known_found _ _ _ c.layout_of.ensures _ c.in_ok-f.was _ _)

@@ -3,12 +3,8 @@ use Rattle.std.proofs.Common.{◌∙◌}
 use Rattle.answers.proofs.Shows.{replies}
 use Rattle.answers.proofs.Demand1.{reply_is}
 use Rattle.places.specs.PlaceCalls.{place_answer}
-use Rattle.kinds.proofs.Judged.{known_sane}
 use Rattle.places.proofs.ByRule.{known_placed}
 use Rattle.places.proofs.place.Goals as goal
-
-pub place_in-requires : goal.place_in-requires
-place_in-requires c = known_sane _ _ _ c.layout_of.ensures _ c.in_ok-f.was
 
 pub returns-in_ok-f : goal.returns-in_ok-f
 unfolding place_answer

@@ -1,7 +1,6 @@
 -- D as it was logged, beside the step's words. Assumes nothing.
 use Rattle.std.proofs.Common.{ℕ, ◌≡◌, ◌∙◌, ◌≤◌, ◌++◌, refl, sym, ap, ap₂, subst, List, length, take, drop, length-append, length-drop, rules, arith}
 use Rattle.std.proofs.Math.Seq.{length-take-le, take_at}
-use Rattle.answers.specs.Refusals.{given}
 use Rattle.step_work.proofs.Matrices.{stepped_length}
 use Rattle.records.specs.Records.{part_d, bytes_of, words_in}
 use Rattle.records.proofs.Laws.{room_C}
@@ -18,53 +17,51 @@ module _ (n : ℕ) (room : n ≤ 128) (words : List ℕ) (long : length words �
   front = take_at words (drop n zeros) n long
 
 pub words_of-log-requires : goal.words_of-log-requires
-words_of-log-requires c = let room = room_C _ c.requires.0.of in search rules
+words_of-log-requires c = let room = room_C _ c.args.s.ready.of in search rules
 
 pub slice_bounds-right-end : goal.slice_bounds-right-end
-slice_bounds-right-end c = omega (arith, room_C _ c.requires.0.of, c.of-n.ensures.2)
+slice_bounds-right-end c = omega (arith, room_C _ c.args.s.ready.of, c.lengths-n.ensures.2)
 
 pub slice_bounds-work-end : goal.slice_bounds-work-end
-slice_bounds-work-end c = let room = room_C _ c.requires.0.of in sym (length-take-le _ _ (search rules))
+slice_bounds-work-end c = let room = room_C _ c.args.s.ready.of in sym (length-take-le _ _ (search rules))
 
 pub work-requires : goal.work-requires
 work-requires c =
-    let room = room_C _ c.requires.0.of in
-    (c.requires.0, c.requires.1, c.requires.2, length-take-le _ _ (omega (arith, c.of-n.ensures.2, room)) ∙ c.of-n.ensures.2)
+    let room = room_C _ c.args.s.ready.of in
+    (c.requires, length-take-le _ _ (omega (arith, c.lengths-n.ensures.2, room)) ∙ c.lengths-n.ensures.2)
 
 pub slice_bounds-log-end : goal.slice_bounds-log-end
-slice_bounds-log-end c = omega (arith, room_C _ c.requires.0.of, c.of-n.ensures.2, c.words_of-log.ensures.0)
+slice_bounds-log-end c = omega (arith, room_C _ c.args.s.ready.of, c.lengths-n.ensures.2, c.words_of-log.ensures.0)
 
 pub slice_bounds-first_wrong-end : goal.slice_bounds-first_wrong-end
-slice_bounds-first_wrong-end c = sym (length-take-le _ _ (omega (arith, room_C _ c.requires.0.of, c.of-n.ensures.2, c.words_of-log.ensures.0)))
+slice_bounds-first_wrong-end c = sym (length-take-le _ _ (omega (arith, room_C _ c.args.s.ready.of, c.lengths-n.ensures.2, c.words_of-log.ensures.0)))
 
 pub slice_bounds-right-end-2 : goal.slice_bounds-right-end-2
 slice_bounds-right-end-2 c =
-    let room : c.of-n.result.c ≤ 128 = omega (arith, room_C _ c.requires.0.of, c.of-n.ensures.2) in
-    whole c.of-n.result.c room c.work.new.d (ap length c.work.ensures ∙ stepped_length _ c.requires.0.of _ _ _ _ _ ∙ sym c.of-n.ensures.2) _ refl
+    let room : c.lengths-n.result.c ≤ 128 = omega (arith, room_C _ c.args.s.ready.of, c.lengths-n.ensures.2) in
+    whole c.lengths-n.result.c room c.work.new.d (ap length c.work.ensures ∙ stepped_length _ c.args.s.ready.of _ _ _ _ _ ∙ sym c.lengths-n.ensures.2) _ refl
 
 pub slice_bounds-first_wrong-end-2 : goal.slice_bounds-first_wrong-end-2
 slice_bounds-first_wrong-end-2 c =
-    let room : c.of-n.result.c ≤ 128 = omega (arith, room_C _ c.requires.0.of, c.of-n.ensures.2) in
-    sym (length-take-le _ _ (whole c.of-n.result.c room c.work.new.d (ap length c.work.ensures ∙ stepped_length _ c.requires.0.of _ _ _ _ _ ∙ sym c.of-n.ensures.2) _ refl))
+    let room : c.lengths-n.result.c ≤ 128 = omega (arith, room_C _ c.args.s.ready.of, c.lengths-n.ensures.2) in
+    sym (length-take-le _ _ (whole c.lengths-n.result.c room c.work.new.d (ap length c.work.ensures ∙ stepped_length _ c.args.s.ready.of _ _ _ _ _ ∙ sym c.lengths-n.ensures.2) _ refl))
 
 pub first_wrong-requires : goal.first_wrong-requires
 first_wrong-requires c =
-    let k = c.args.kind.0 in
+    let k = c.args.s.kind.0 in
     let bytes = c.args.«record».now in
-    let room : c.of-n.result.c ≤ 128 = omega (arith, room_C _ c.requires.0.of, c.of-n.ensures.2) in
-    let long : length c.work.new.d ≡ c.of-n.result.c = ap length c.work.ensures ∙ stepped_length _ c.requires.0.of _ _ _ _ _ ∙ sym c.of-n.ensures.2 in (
-      c.requires.0.of,
-      c.requires.1,
-      ap length (c.words_of-log.ensures.1 ∙ ap (λ (m : ℕ). words_in m (bytes_of part_d bytes)) c.of-n.ensures.2) ∙ part_length k part_d bytes,
-      ap length (front c.of-n.result.c room c.work.new.d long _ refl) ∙ long ∙ c.of-n.ensures.2,
+    let room : c.lengths-n.result.c ≤ 128 = omega (arith, room_C _ c.args.s.ready.of, c.lengths-n.ensures.2) in
+    let long : length c.work.new.d ≡ c.lengths-n.result.c = ap length c.work.ensures ∙ stepped_length _ c.args.s.ready.of _ _ _ _ _ ∙ sym c.lengths-n.ensures.2 in (
+      ap length (c.words_of-log.ensures.1 ∙ ap (λ (m : ℕ). words_in m (bytes_of part_d bytes)) c.lengths-n.ensures.2) ∙ part_length k part_d bytes,
+      ap length (front c.lengths-n.result.c room c.work.new.d long _ refl) ∙ long ∙ c.lengths-n.ensures.2,
     )
 
 pub returns : goal.returns
 returns c =
     let bytes = c.args.«record».now in
-    let room : c.of-n.result.c ≤ 128 = omega (arith, room_C _ c.requires.0.of, c.of-n.ensures.2) in
-    let long : length c.work.new.d ≡ c.of-n.result.c = ap length c.work.ensures ∙ stepped_length _ c.requires.0.of _ _ _ _ _ ∙ sym c.of-n.ensures.2 in
+    let room : c.lengths-n.result.c ≤ 128 = omega (arith, room_C _ c.args.s.ready.of, c.lengths-n.ensures.2) in
+    let long : length c.work.new.d ≡ c.lengths-n.result.c = ap length c.work.ensures ∙ stepped_length _ c.args.s.ready.of _ _ _ _ _ ∙ sym c.lengths-n.ensures.2 in
     c.first_wrong.ensures
-    ∙ ap₂ (λ (log right : List ℕ). given (compared c.args.kind.0 log right))
-    (c.words_of-log.ensures.1 ∙ ap (λ (m : ℕ). words_in m (bytes_of part_d bytes)) c.of-n.ensures.2)
-    (front c.of-n.result.c room c.work.new.d long _ refl ∙ c.work.ensures)
+    ∙ ap₂ (compared c.args.s.kind.0)
+    (c.words_of-log.ensures.1 ∙ ap (λ (m : ℕ). words_in m (bytes_of part_d bytes)) c.lengths-n.ensures.2)
+    (front c.lengths-n.result.c room c.work.new.d long _ refl ∙ c.work.ensures)

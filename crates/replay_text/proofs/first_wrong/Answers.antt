@@ -18,19 +18,19 @@ module _ (k : ℕ) (ok : Arithmetic k) (line : Entry) (is : line ≡ entry_of k)
 
 pub word_of-word-requires : goal.word_of-word-requires
 word_of-word-requires c =
-    let few = words_few c.args.kind.0 c.requires.0 c.args.line c.requires.1 in
-    let halves = halves_few c.args.kind.0 c.requires.0 c.args.line c.requires.1 in
+    let few = words_few c.args.s.kind.0 c.args.s.ready.of c.args.s.line c.args.s.line_is in
+    let halves = halves_few c.args.s.kind.0 c.args.s.ready.of c.args.s.line c.args.s.line_is in
     search rules
 
 pub bounds-log-word : goal.bounds-log-word
 bounds-log-word c =
-    let inside = word_inside c.args.kind.0 c.requires.0 c.args.line c.requires.1 c.loop-place.place c.loop-place-test.true in
-    omega (arith, c.word_of-word.ensures.is, c.requires.2)
+    let inside = word_inside c.args.s.kind.0 c.args.s.ready.of c.args.s.line c.args.s.line_is c.loop-place.place c.loop-place-test.true in
+    omega (arith, c.word_of-word.ensures.is, c.requires.0)
 
 pub bounds-right-word : goal.bounds-right-word
 bounds-right-word c =
-    let inside = word_inside c.args.kind.0 c.requires.0 c.args.line c.requires.1 c.loop-place.place c.loop-place-test.true in
-    omega (arith, c.word_of-word.ensures.is, c.requires.3)
+    let inside = word_inside c.args.s.kind.0 c.args.s.ready.of c.args.s.line c.args.s.line_is c.loop-place.place c.loop-place-test.true in
+    omega (arith, c.word_of-word.ensures.is, c.requires.1)
 
 pub loop-place-preserved : goal.loop-place-preserved
 loop-place-preserved c =
@@ -38,10 +38,10 @@ loop-place-preserved c =
 
 pub returns-then-log-word : goal.returns-then-log-word
 returns-then-log-word c =
-    let k = c.args.kind.0 in
-    let ok = c.requires.0 in
-    let line = c.args.line in
-    let is = c.requires.1 in
+    let k = c.args.s.kind.0 in
+    let ok = c.args.s.ready.of in
+    let line = c.args.s.line in
+    let is = c.args.s.line_is in
     let log = c.args.log.now in
     let right = c.args.right.now in
     let n = c.loop-place.place in
@@ -49,20 +49,20 @@ returns-then-log-word c =
     let log_fits : (x : ℕ) → get_or log x 0 < 2 ^ 32 = λ x. (c.type_inv.log x).fits in
     let right_fits : (x : ℕ) → get_or right x 0 < 2 ^ 32 = λ x. (c.type_inv.right x).fits in
     let here = differ_there k ok line is n low log right log_fits right_fits (rw c.word_of-word.ensures.is at c.if-log-word.true) in
-    ap (λ (m : ℕ). given (wrong (n / m) (n % m))) (sym (eight k ok line is))
-    ∙ ap given (found k (legal k ok 2 (omega arith)) log right n (omega (arith, low, places_are k ok line is)) here
-    (agree k ok line is log right log_fits right_fits n c.loop-place.invariant.0 c.loop-place.invariant.1))
+    ap (λ (m : ℕ). wrong (n / m) (n % m)) (sym (eight k ok line is))
+    ∙ found k (legal k ok 2 (omega arith)) log right n (omega (arith, low, places_are k ok line is)) here
+    (agree k ok line is log right log_fits right_fits n c.loop-place.invariant.0 c.loop-place.invariant.1)
 
 pub returns : goal.returns
 returns c =
-    let k = c.args.kind.0 in
-    let ok = c.requires.0 in
-    let line = c.args.line in
-    let is = c.requires.1 in
+    let k = c.args.s.kind.0 in
+    let ok = c.args.s.ready.of in
+    let line = c.args.s.line in
+    let is = c.args.s.line_is in
     let log = c.args.log.now in
     let right = c.args.right.now in
     let n = c.loop-place.place in
     let all : n ≡ line.m / 8 * 64 = omega (arith, c.loop-place.invariant.0, c.loop-place-test.false) in
-    ap given (not_found k (legal k ok 2 (omega arith)) log right
+    not_found k (legal k ok 2 (omega arith)) log right
     (λ j l. agree k ok line is log right (λ x. (c.type_inv.log x).fits) (λ x. (c.type_inv.right x).fits) n c.loop-place.invariant.0 c.loop-place.invariant.1 j
-    (omega (arith, l, all, places_are k ok line is))))
+    (omega (arith, l, all, places_are k ok line is)))

@@ -1,9 +1,9 @@
--- The kind's spans and halves are those written out, so its lengths are those asked for, and the words counted are the step's. Assumes nothing.
-use Rattle.std.proofs.Common.{◌≡◌, ℕ, ◌*◌, ◌/◌, ◌^◌, ◌<◌, ◌≤◌, List, length, get_or, sym, ap, ◌∙◌}
+-- The kind's spans and halves are those of its counter, so its lengths are those asked for, and the words counted are the step's. Assumes nothing.
+use Rattle.std.proofs.Common.{◌≡◌, ℕ, ◌*◌, ◌/◌, ◌^◌, ◌<◌, List, length, get_or, sym, ap, ◌∙◌, arith}
 use Rattle.answers.specs.Tests.{Says}
 use Rattle.kinds.specs.Kinds.{lanes, entry_of, one_bit, Arithmetic}
 use Rattle.kinds.specs.declared.Entry.{Entry}
-use Rattle.step_ones.specs.Combined.{ones_words, lines_of, Reaches}
+use Rattle.step_ones.specs.Combined.{ones_words, lines_of}
 use Rattle.step_ones.proofs.Counts.{lined}
 use Rattle.step_work.specs.Step.{stepped}
 use Rattle.step_work.specs.Workers.{Sized}
@@ -11,15 +11,15 @@ use Rattle.step_work.proofs.Counted as counts
 use Rattle.step_work.proofs.count.Goals as goal
 
 -- of a kind's line: which of the three forms it has, by what the code tests
-module _ (k : ℕ) (line : Entry) (mode : ℕ) (ok : Arithmetic k × Says (one_bit k) × (mode ≤ 1) × (line ≡ entry_of k)) where
+module _ (k : ℕ) (line : Entry) (mode : ℕ) (ok : Arithmetic k × Says (one_bit k) × (line ≡ entry_of k)) where
   abbrev Form : (spans halves : ℕ) → Type 0
   Form spans halves = ((entry_of k).b ≡ spans) × ((entry_of k).m / 8 ≡ halves)
 
   rows_are : line.m ≡ (entry_of k).m
-  rows_are = ap (λ (e : Entry). e.m) ok.3
+  rows_are = ap (λ (e : Entry). e.m) ok.2
 
   words_are : line.b ≡ (entry_of k).b
-  words_are = ap (λ (e : Entry). e.b) ok.3
+  words_are = ap (λ (e : Entry). e.b) ok.2
 
   narrow : line.m ≡ 8 → Form 1 1
   narrow h = counts.narrow k ok.0 ok.1 (sym rows_are ∙ h)
@@ -33,33 +33,17 @@ module _ (k : ℕ) (line : Entry) (mode : ℕ) (ok : Arithmetic k × Says (one_b
   -- what the workers ask for, and the words that they leave
   module _ (spans halves : ℕ) (known : Form spans halves) (a b c : List ℕ) where
     asked : (d : List ℕ) → Sized k (length a) (length b) (length c) (length d)
-        → Reaches spans halves a × Reaches spans 1 b × ((length c ≡ lanes * (2 * halves)) × (length d ≡ lanes * (2 * halves)))
+        → ((length a ≡ lanes * (spans * halves)) × (length b ≡ lanes * spans)) × ((length c ≡ lanes * (2 * halves)) × (length d ≡ lanes * (2 * halves)))
     asked d = counts.asked k ok.0 ok.1 spans halves known a b c d
 
     counted : ((x : ℕ) → get_or c x 0 < 2 ^ 32) → ones_words spans halves mode (lines_of spans halves a) b c ≡ stepped k 0 mode a b c
     counted fit = counts.counted k ok.0 ok.1 spans halves known mode a b c fit
 
-pub fill-requires-clause-counts : goal.fill-requires-clause-counts
-fill-requires-clause-counts c =
+pub fill-requires : goal.fill-requires
+fill-requires c =
     let s = c.args in
     let p = c.requires.arithmetic in
-    let l = asked s.kind.0 s.line s.mode.0 p 1 1 (narrow s.kind.0 s.line s.mode.0 p c.if-line-eq8.true) s.a.now s.b.now s.c.now s.d.now c.requires.sized in (
-      record {
-        spans_pos = l.0.spans_pos;
-        spans_le = l.0.spans_le;
-        halves_pos = l.0.halves_pos;
-        halves_le = l.0.halves_le;
-        mode_le = p.2;
-        of_x = l.0.words;
-      },
-      l.1,
-    )
-
-pub fill-requires-clause-c_len : goal.fill-requires-clause-c_len
-fill-requires-clause-c_len c =
-    let s = c.args in
-    let p = c.requires.arithmetic in
-    (asked s.kind.0 s.line s.mode.0 p 1 1 (narrow s.kind.0 s.line s.mode.0 p c.if-line-eq8.true) s.a.now s.b.now s.c.now s.d.now c.requires.sized).2
+    (omega arith, asked s.kind.0 s.line s.mode.0 p 1 1 (narrow s.kind.0 s.line s.mode.0 p c.if-line-eq8.true) s.a.now s.b.now s.c.now s.d.now c.requires.sized)
 
 pub returns-then-line-eq8 : goal.returns-then-line-eq8
 returns-then-line-eq8 c =
@@ -68,45 +52,35 @@ returns-then-line-eq8 c =
     let form = narrow s.kind.0 s.line s.mode.0 p c.if-line-eq8.true in
     let l = asked s.kind.0 s.line s.mode.0 p 1 1 form s.a.now s.b.now s.c.now s.d.now c.requires.sized in
     c.fill.ensures
-    ∙ ap (λ (x : List ℕ). ones_words 1 1 s.mode.0 x s.b.now s.c.now) (lined _ l.0.words)
+    ∙ ap (λ (x : List ℕ). ones_words 1 1 s.mode.0 x s.b.now s.c.now) (lined _ l.0.0)
     ∙ counted s.kind.0 s.line s.mode.0 p 1 1 form s.a.now s.b.now s.c.now (λ x. (c.type_inv.c x).fits)
 
-pub fill_in_lines-requires-clause-reaches : goal.fill_in_lines-requires-clause-reaches
-fill_in_lines-requires-clause-reaches c =
+pub fill_in_lines-requires : goal.fill_in_lines-requires
+fill_in_lines-requires c =
     let s = c.args in
     let p = c.requires.arithmetic in
-    let l = asked s.kind.0 s.line s.mode.0 p 1 2 (tall s.kind.0 s.line s.mode.0 p c.if-line-eq8.false c.if-line-eq1.true) s.a.now s.b.now s.c.now s.d.now c.requires.sized in
-    (l.0, l.1, p.2)
-
-pub fill_in_lines-requires-clause-c_len : goal.fill_in_lines-requires-clause-c_len
-fill_in_lines-requires-clause-c_len c =
-    let s = c.args in
-    let p = c.requires.arithmetic in
-    (asked s.kind.0 s.line s.mode.0 p 1 2 (tall s.kind.0 s.line s.mode.0 p c.if-line-eq8.false c.if-line-eq1.true) s.a.now s.b.now s.c.now s.d.now c.requires.sized).2
+    let form = tall s.kind.0 s.line s.mode.0 p c.if-line-eq8.false c.if-line-eq1.true in
+    (omega arith, asked s.kind.0 s.line s.mode.0 p 1 2 form s.a.now s.b.now s.c.now s.d.now c.requires.sized)
 
 pub returns-then-line-eq1 : goal.returns-then-line-eq1
 returns-then-line-eq1 c =
     let s = c.args in
     let p = c.requires.arithmetic in
+    let form = tall s.kind.0 s.line s.mode.0 p c.if-line-eq8.false c.if-line-eq1.true in
     c.fill_in_lines.ensures
-    ∙ counted s.kind.0 s.line s.mode.0 p 1 2 (tall s.kind.0 s.line s.mode.0 p c.if-line-eq8.false c.if-line-eq1.true) s.a.now s.b.now s.c.now (λ x. (c.type_inv.c x).fits)
+    ∙ counted s.kind.0 s.line s.mode.0 p 1 2 form s.a.now s.b.now s.c.now (λ x. (c.type_inv.c x).fits)
 
-pub fill_in_lines-requires-2-clause-reaches : goal.fill_in_lines-requires-2-clause-reaches
-fill_in_lines-requires-2-clause-reaches c =
+pub fill_in_lines-requires-else-line-eq1 : goal.fill_in_lines-requires-else-line-eq1
+fill_in_lines-requires-else-line-eq1 c =
     let s = c.args in
     let p = c.requires.arithmetic in
-    let l = asked s.kind.0 s.line s.mode.0 p 2 2 (long s.kind.0 s.line s.mode.0 p c.if-line-eq8.false c.if-line-eq1.false) s.a.now s.b.now s.c.now s.d.now c.requires.sized in
-    (l.0, l.1, p.2)
+    let form = long s.kind.0 s.line s.mode.0 p c.if-line-eq8.false c.if-line-eq1.false in
+    (omega arith, asked s.kind.0 s.line s.mode.0 p 2 2 form s.a.now s.b.now s.c.now s.d.now c.requires.sized)
 
-pub fill_in_lines-requires-2-clause-c_len : goal.fill_in_lines-requires-2-clause-c_len
-fill_in_lines-requires-2-clause-c_len c =
+pub returns-else-line-eq1 : goal.returns-else-line-eq1
+returns-else-line-eq1 c =
     let s = c.args in
     let p = c.requires.arithmetic in
-    (asked s.kind.0 s.line s.mode.0 p 2 2 (long s.kind.0 s.line s.mode.0 p c.if-line-eq8.false c.if-line-eq1.false) s.a.now s.b.now s.c.now s.d.now c.requires.sized).2
-
-pub returns : goal.returns
-returns c =
-    let s = c.args in
-    let p = c.requires.arithmetic in
-    c.fill_in_lines-2.ensures
-    ∙ counted s.kind.0 s.line s.mode.0 p 2 2 (long s.kind.0 s.line s.mode.0 p c.if-line-eq8.false c.if-line-eq1.false) s.a.now s.b.now s.c.now (λ x. (c.type_inv.c x).fits)
+    let form = long s.kind.0 s.line s.mode.0 p c.if-line-eq8.false c.if-line-eq1.false in
+    c.fill_in_lines-else-line-eq1.ensures
+    ∙ counted s.kind.0 s.line s.mode.0 p 2 2 form s.a.now s.b.now s.c.now (λ x. (c.type_inv.c x).fits)

@@ -1,6 +1,6 @@
 -- The entries that were unpacked fit a byte, and are as many as the record's bytes. Assumes nothing.
+use Rattle.kinds.specs.Rule.{Layout}
 use Rattle.std.proofs.Common.{sym, ap, subst, ◌∙◌, length}
-use Rattle.kinds.specs.declared.Layout.{Layout}
 use Rattle.kinds.proofs.Table.{layout_at}
 use Rattle.buffers.specs.Buffers.{Fitting, unpacked}
 use Rattle.buffers.proofs.Round.{unpacked_fits, unpacked_length}

@@ -1,8 +1,0 @@
-use Rattle.std.proofs.Common.{◌≡◌, ◌*◌, ◌≤◌}
-use Rattle.laws.specs.Bits.{ones_in}
-use Rattle.step_ones.specs.Combined.{down_bits}
-use Rattle.step_ones.proofs.ones_at.Given as goal
-
--- After q turns the sum is the ones among the combined bits of the first q pairs.
-abbrev pub invariant-loop-q : goal.invariant-loop-q
-invariant-loop-q l = (l.sum ≤ 64 * l.q) × (l.sum ≡ ones_in (down_bits l.mode.0 l.q l.x l.y l.i l.column))

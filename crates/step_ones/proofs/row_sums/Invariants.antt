@@ -1,8 +1,0 @@
-use Rattle.std.proofs.Common.{◌≡◌, ◌*◌}
-use Rattle.laws.specs.Lists.{fills}
-use Rattle.step_ones.specs.Combined.{ones_of}
-use Rattle.step_ones.proofs.row_sums.Given as goal
-
--- The loop stores the ones of the row with each column in order.
-abbrev pub invariant-loop-column : goal.invariant-loop-column
-invariant-loop-column l = l.out ≡ fills (l.row * 8) l.column (ones_of l.spans l.mode.0 l.x l.y l.row) l.initial.out
