@@ -1,7 +1,7 @@
 // What the replay program prints for its input: a line for each step record, by the D that it ought to have.
 #![tactic(auto)]
 
-ghost use Rattle.std.specs.Prelude.{◌≡◌, ◌+◌, ◌*◌, ◌^◌, ◌<◌, ◌≤◌, length, take};
+ghost use Rattle.std.specs.Prelude.{Some, Ok, ◌≡◌, ◌+◌, ◌*◌, ◌^◌, ◌<◌, ◌≤◌, length, take};
 ghost use Rattle.answers.specs.Refusals.{given};
 ghost use Rattle.answers.specs.Promised.{Replies};
 ghost use Rattle.kinds.specs.Kinds.{entry_of, Arithmetic};
@@ -9,7 +9,7 @@ ghost use Rattle.buffers.specs.Buffers.{words_needed};
 ghost use Rattle.step_work.specs.Workers.{Ready};
 ghost use Rattle.records.specs.Records.{record_bytes, words_in};
 ghost use Rattle.text.specs.Text.{HasRoom, Put, Pushed};
-ghost use Rattle.replay_text.specs.Verdicts.{wrong, compared, replay_call, verdict_of, told_replay, told_wrong};
+ghost use Rattle.replay_text.specs.Verdicts.{compared, replay_call, verdict_of, told_replay, told_wrong};
 ghost use Rattle.replay_text.specs.Workers.{word_no, step_words, compared_by};
 ghost use Rattle.replay_text.specs.Text.{verdict_text, line_of, whole_records, printed_from};
 
@@ -105,13 +105,13 @@ pub fn replay(record: &[u8]) -> Result<Option<Wrong>, Refusal>
 }
 
 #[tactic(auto, using(crate::proofs::Lines::ten), unfolding(crate::specs::Text::verdict_text))]
-fn put_wrong(text: &mut Text<'_>, row: Row, column: Column)
+fn put_wrong(text: &mut Text<'_>, first: Wrong)
     requires { HasRoom 28 text.old }
-    ensures { Pushed (verdict_text (given (wrong row.0 column.0))) text.old text.new × (text.new.len ≤ text.old.len + 28) }
+    ensures { Pushed (verdict_text (told_replay (Ok (Some first)))) text.old text.new × (text.new.len ≤ text.old.len + 28) }
 {
     text.push_text(b"wrong");
-    text.push_next(row.0);
-    text.push_next(column.0);
+    text.push_next(first.row.0);
+    text.push_next(first.column.0);
     text.push(b'\n');
 }
 
@@ -122,8 +122,8 @@ fn put_verdict(text: &mut Text<'_>, verdict: Result<Option<Wrong>, Refusal>)
 {
     match verdict {
         Ok(None) => text.push_text(b"ok\n"),
-        Ok(Some(wrong)) => put_wrong(text, wrong.row, wrong.column),
-        Err(x) => text.push_refused(x.number()),
+        Ok(Some(first)) => put_wrong(text, first),
+        Err(refusal) => text.push_refused(refusal.number()),
     }
 }
 

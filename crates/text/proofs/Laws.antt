@@ -1,9 +1,9 @@
--- Texts pushed one after another, and the digits of a number. Assumes nothing.
-use mathlib.Core.Path.{◌≡◌, refl, sym, ap, subst, ◌∙◌}
+-- Texts pushed one after another, and the digits of a number: the kit's are the definition's. Assumes nothing.
+use mathlib.Core.Path.{◌≡◌, refl, sym, ap, ap₂, subst, ◌∙◌}
 use mathlib.Core.Bool.{Bool, true, false}
 use mathlib.Core.List.{List, [], ◌∷◌, ◌++◌, append_assoc}
 use Prim.Native.Nat.{ℕ, zero, suc, ◌+◌, ◌-◌, ◌*◌, ◌/◌, ◌%◌, ◌^◌, ◌<◌, ◌≤◌}
-use native.Mathlib.Nat.{le_of_suc-le-suc, div-lt_iff_lt-mul}
+use native.Mathlib.Nat.{not-suc-le-zero, le_of_suc-le-suc, mod-lt, mod-eq_of_lt, div-lt_iff_lt-mul, le-div_iff_mul-le}
 use native.Mathlib.Omega.{arith}
 use borrow.Author.Tests.{lt-ltb, le-ltb}
 use lib.ListN.{length, take, drop, length-append, length-drop}
@@ -12,6 +12,7 @@ use Rattle.std.proofs.Common.{if◌then◌else◌}
 use Rattle.std.proofs.lemmas.Slice.{take-put_mid, drop-put_mid}
 use borrow.Rule.Slice.PartMut.{put_mid, same_len_mid}
 use Rattle.laws.specs.Choice.{◌<?◌}
+use Rattle.io.specs.Digits.{hex_digit_ascii, last_digits, IsDigitCount}
 use Rattle.text.specs.Text.{digit, decimal_in, decimal, refused_line, Put, Pushed}
 use Rattle.text.specs.declared.Text.{Text}
 
@@ -80,6 +81,31 @@ one_long n h = ap length (one_digit 19 n h)
 
 pub more_long : (n : ℕ) → 10 ≤ n → n < 2 ^ 64 → length (decimal n) ≡ length (decimal (n / 10)) + 1
 more_long n l h = ap length (last_digit n l h) ∙ length-append (decimal (n / 10)) _
+
+-- the kit's digits are these
+digit_is : (d : ℕ) → d < 10 → hex_digit_ascii d ≡ digit d
+digit_is d h = rw (lt-ltb d 10 h) refl
+
+pow_pos : (k : ℕ) → 1 ≤ 10 ^ k
+pow_pos zero = omega arith
+pow_pos (suc k) = omega (arith, pow_pos k)
+
+ten_le : (k : ℕ) → 10 ≤ 10 ^ suc k
+ten_le k = omega (arith, pow_pos k)
+
+pub kit_digits : (k n : ℕ) → IsDigitCount 10 1 n k → n < 2 ^ 64 → last_digits 10 k n ≡ decimal n
+kit_digits zero n f h = absurd (not-suc-le-zero f.0)
+kit_digits (suc zero) n f h =
+    let l : n < 10 = f.1 in
+    ap (λ (d : ℕ). hex_digit_ascii d ∷ []) (mod-eq_of_lt l) ∙ ap (λ (d : ℕ). d ∷ []) (digit_is n l) ∙ sym (one_digit 19 n l)
+kit_digits (suc (suc k)) n f h =
+    let low : 10 ^ suc k ≤ n = subst (λ (m : ℕ). 10 ^ m ≤ n) (omega arith) (f.2 (omega arith)) in
+    let much : 10 ≤ n = omega (arith, low, ten_le k) in
+    let high : n < 10 ^ suc k * 10 = omega (arith, f.1) in
+    let deep : 10 ^ k * 10 ≤ n = omega (arith, low) in
+    let ten : 0 < 10 = omega arith in
+    let less : IsDigitCount 10 1 (n / 10) (suc k) = (omega arith, (div-lt_iff_lt-mul ten).1 high, λ m. subst (λ (j : ℕ). 10 ^ j ≤ n / 10) (omega arith) ((le-div_iff_mul-le ten).1 deep)) in
+    ap₂ (λ (xs : List ℕ) (d : ℕ). xs ++ (d ∷ [])) (kit_digits (suc k) (n / 10) less (omega (arith, h))) (digit_is (n % 10) (mod-lt n (omega arith))) ∙ sym (last_digit n much h)
 
 -- no more than k where the number is below 10 to the k
 pub decimal_length : (k most n : ℕ) → n < 10 ^ suc k → length (decimal_in most n) ≤ suc k

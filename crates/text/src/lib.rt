@@ -59,7 +59,9 @@ impl<'a> Text<'a> {
             self.push_two_digits(n / 10);
             return self.push(b'0' + (n % 10) as u8);
         }
-        self.push_digits(n);
+        let mut digits = [0; 20];
+        let count = io::decimal(n, &mut digits);
+        self.push_text(&digits[..count]);
     }
 
     #[tactic(auto, using(crate::proofs::Laws::one_long, crate::proofs::Laws::more_long))]
@@ -68,19 +70,6 @@ impl<'a> Text<'a> {
         ensures { Pushed (decimal n) self.old self.new }
     {
         self.push(b'0' + (n / 10) as u8);
-        self.push(b'0' + (n % 10) as u8);
-    }
-
-    // The digits of a tenth, and the last one.
-    #[tactic(auto, using(crate::proofs::Laws::one_long, crate::proofs::Laws::more_long))]
-    fn push_digits(&mut self, n: u64)
-        requires { HasRoom (length (decimal n)) self.old }
-        ensures { Pushed (decimal n) self.old self.new }
-    {
-        if n < 10 {
-            return self.push(b'0' + n as u8);
-        }
-        self.push_digits(n / 10);
         self.push(b'0' + (n % 10) as u8);
     }
 

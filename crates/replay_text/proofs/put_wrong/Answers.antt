@@ -9,4 +9,4 @@ pub returns : goal.returns
 unfolding verdict_text
 returns c =
     let all = pushed_more (pushed_more (pushed_more c.push_text.ensures c.push_next.ensures) c.push_next-2.ensures) c.push.ensures in
-    (all, pushed_ends all 28 (simp length-append (omega (arith, ten c.args.row.0 (search rules), ten c.args.column.0 (search rules)))))
+    (all, pushed_ends all 28 (simp length-append (omega (arith, ten c.args.first.row.0 (search rules), ten c.args.first.column.0 (search rules)))))

@@ -1,6 +1,6 @@
--- One digit, and three. Assumes nothing.
-use Rattle.std.proofs.Common.{arith}
-use Rattle.text.proofs.Laws.{pushed_more, pushed_same, one_digit, last_digit}
+-- One digit, three, or the kit's digits. Assumes nothing.
+use Rattle.std.proofs.Common.{◌∙◌, arith, ap, length}
+use Rattle.text.proofs.Laws.{pushed_more, pushed_same, one_digit, last_digit, kit_digits}
 use Rattle.text.proofs.Text.push_decimal.Goals as goal
 
 pub returns-then-n-lt10 : goal.returns-then-n-lt10
@@ -8,3 +8,13 @@ returns-then-n-lt10 c = pushed_same (one_digit 19 c.args.n (omega arith)) c.push
 
 pub returns-then-n-lt1000 : goal.returns-then-n-lt1000
 returns-then-n-lt1000 c = pushed_same (last_digit c.args.n (omega arith) c.ranges.n.fits) (pushed_more c.push_two_digits-then-n-lt1000.ensures c.push-then-n-lt1000.ensures)
+
+pub push_text-requires : goal.push_text-requires
+push_text-requires c =
+    let d = c.decimal-count in
+    omega (arith, ap length (d.ensures.digits ∙ kit_digits d.result c.args.n d.ensures.len c.ranges.n.fits), c.requires)
+
+pub returns : goal.returns
+returns c =
+    let d = c.decimal-count in
+    rw (d.ensures.digits ∙ kit_digits d.result c.args.n d.ensures.len c.ranges.n.fits) at c.push_text.ensures
