@@ -2,7 +2,6 @@
 #![tactic(auto)]
 
 ghost use Rattle.std.specs.Prelude.{Some, Ok, ◌≡◌, ◌+◌, ◌*◌, ◌^◌, ◌<◌, ◌≤◌, length, take};
-ghost use Rattle.answers.specs.Refusals.{given};
 ghost use Rattle.answers.specs.Promised.{Replies};
 ghost use Rattle.kinds.specs.Kinds.{entry_of, Arithmetic};
 ghost use Rattle.buffers.specs.Buffers.{words_needed};
