@@ -10,5 +10,5 @@ use Rattle.kinds.proofs.Layout.of.Goals as goal
 pub returns-clause-laid : goal.returns-clause-laid
 returns-clause-laid c =
     let r = c.args.role.0 in
-    subst Laid (sym (c.layout_in.ensures ∙ ap (λ (e : Entry). layout_of e (role_of r)) c.of-e.ensures.is))
+    subst Laid (sym (c.layout_in.ensures ∙ ap (λ (e : Entry). layout_of e (role_of r)) c.of-e.ensures))
     (sane c.args.kind.0 r (record { low = c.requires.0; high = c.requires.1; role = c.requires.2 }))
