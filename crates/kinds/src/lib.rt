@@ -217,6 +217,17 @@ impl Entry {
 // How one kind and role lies in a warp: bits of an element and words of a lane; elements side by side, halves of eight rows, spans of
 // four times side columns; turned where the major number is the column, as in B.
 #[derive(Clone, Copy)]
+pub struct Shape {
+    pub bits: usize,
+    pub words: usize,
+    pub side: usize,
+    pub halves: usize,
+    pub spans: usize,
+    pub turned: bool,
+}
+
+// The same of a kind and a role of the table: its numbers are as theirs are, which is the type's own fact.
+#[derive(Clone, Copy)]
 pub struct Layout {
     pub bits: usize,
     pub words: usize,
@@ -292,6 +303,20 @@ impl Layout {
 }
 
 impl Layout {
+    // Its numbers alone, for the steps, whose own facts say more of them.
+    pub fn shape(&self) -> Shape
+        ensures { result ≡ self.now }
+    {
+        Shape {
+            bits: self.bits,
+            words: self.words,
+            side: self.side,
+            halves: self.halves,
+            spans: self.spans,
+            turned: self.turned,
+        }
+    }
+
     // The rows and the columns of the matrix.
     pub fn rows(&self) -> usize
         ensures is { result ≡ rows_of self.now }
@@ -317,9 +342,9 @@ impl Layout {
 // The layouts of a kind's A, B and C.
 #[derive(Clone, Copy)]
 pub struct Layouts {
-    pub a: Layout,
-    pub b: Layout,
-    pub c: Layout,
+    pub a: Shape,
+    pub b: Shape,
+    pub c: Shape,
 }
 
 impl Layouts {
@@ -332,7 +357,11 @@ impl Layouts {
         let a = layout_in(e, side, Role(Role::A));
         let b = layout_in(e, side, Role(Role::B));
         let c = layout_in(e, side, Role(Role::C));
-        Layouts { a, b, c }
+        Layouts {
+            a: a.shape(),
+            b: b.shape(),
+            c: c.shape(),
+        }
     }
 }
 
