@@ -19,7 +19,7 @@ use Rattle.laws.proofs.Lists.{length_tab, get_or_tab, tab_ext}
 use Rattle.kinds.specs.Kinds.{lanes, columns_at, rows_at, one_bit, Legal, Arithmetic}
 use Rattle.answers.specs.Refusals.{given}
 use Rattle.kinds.specs.Rule.{elements_of, rows_of, columns_of, holder_of}
-use Rattle.kinds.specs.declared.Layout.{Layout}
+use Rattle.kinds.specs.Rule.{Layout}
 use Rattle.kinds.proofs.Table.{layout_at, sane, rows_are, columns_are, words_are}
 use Rattle.buffers.specs.Buffers.{words_needed}
 use Rattle.buffers.proofs.Elements.{word_in, element_narrow}

@@ -13,26 +13,23 @@ use Rattle.laws.proofs.Choice.{or_right, none_below}
 use Rattle.laws.proofs.Lists.{get_d_any}
 use Rattle.answers.specs.Tests.{within, Says, holds}
 use Rattle.answers.proofs.Words.{says}
-use Rattle.kinds.specs.Kinds.{kinds, roles, line, table, named, line_at, entry_of, role_of, KnownRole, rows, columns, bits, words, elements, word_bits, bits_at, columns_at, elements_at, rows_at, words_at, one_bit_element, one_bit, integer, Legal}
+use Rattle.kinds.specs.Kinds.{kinds, roles, rank, line, table, line_at, entry_of, role_of, KnownRole, rows, columns, bits, words, elements, word_bits, bits_at, columns_at, elements_at, rows_at, words_at, one_bit_element, one_bit, integer, Legal}
 use Rattle.kinds.specs.Rule.{Layout, shape, side_of, layout_of, elements_of, majors, minors, rows_of, columns_of, turn}
 use Rattle.kinds.specs.Laid.{Laid}
 use Rattle.kinds.specs.Workers.{LineAt}
 use Rattle.kinds.specs.declared.Sided.{Sided}
 use Rattle.kinds.specs.declared.Entry.{Entry}
+use Rattle.kinds.specs.declared.Format.TheVariants.{Tf32}
 use Rattle.kinds.specs.declared.Layout.TheInside.{Inside}
 
 abbrev pub layout_at : ℕ → ℕ → Layout
 layout_at k r = layout_of (entry_of k) (role_of r)
 
--- every kind has an element
-pub element_pos : (k : ℕ) → 1 ≤ k → k ≤ kinds → 1 ≤ (entry_of k).element
-element_pos k low high = leb→le 1 (entry_of k).element (all_at kinds (λ j. leb 1 (line_at j).element) tt (k - 1) (omega arith))
-
 -- what the code has as a kind's line is the table's
-pub line_is : (k : ℕ) (l : Sided) → 1 ≤ k → k ≤ kinds → LineAt (k - 1) l → named l.0 ≡ entry_of k
+pub line_is : (k : ℕ) (l : Sided) → 1 ≤ k → k ≤ kinds → LineAt (k - 1) l → l.line ≡ entry_of k
 line_is k l low high at =
     let n = at.number_is (λ o. omega (arith, none_below kinds (k - 1) o)) in
-    ap named (sym at.line_is ∙ ap (λ (j : ℕ). get_or table j l.0) (sym n) ∙ get_d_any table (k - 1) l.0 (line 0 0 0 0 0 0 0 0) (omega arith))
+    sym at.line_is ∙ ap (λ (j : ℕ). get_or table j l.line) (sym n) ∙ get_d_any table (k - 1) l.line (line 0 0 0 Tf32 0 0 0 0) (omega arith)
 
 -- some elements stand side by side
 pub side_pos : (k : ℕ) → 1 ≤ k → k ≤ kinds → 0 < side_of (entry_of k).bits
@@ -44,12 +41,12 @@ where_so true b e t = t
 where_so false b e t = absurd (false≢true e)
 
 abbrev pub among : (from to : ℕ) → (Entry → Bool) → ℕ → Bool
-among from to t j = not (holds (within (line_at j).element from to)) || t (line_at j)
+among from to t j = not (holds (within (rank (line_at j).element) from to)) || t (line_at j)
 
-module _ (k : ℕ) (low : 1 ≤ k) (high : k ≤ kinds) (from to : ℕ) (is : (from ≤ (entry_of k).element) × ((entry_of k).element ≤ to)) where
+module _ (k : ℕ) (low : 1 ≤ k) (high : k ≤ kinds) (from to : ℕ) (is : (from ≤ rank (entry_of k).element) × (rank (entry_of k).element ≤ to)) where
   among_at : (t : Entry → Bool) → T (all kinds (among from to t)) → T (t (entry_of k))
   among_at t h =
-      let between = within (entry_of k).element from to in
+      let between = within (rank (entry_of k).element) from to in
       where_so (holds between) (t (entry_of k)) ((says between).1 is) (all_at kinds (among from to t) h (k - 1) (omega arith))
 
   pub among_≡ : (f g : Entry → ℕ) → T (all kinds (among from to (λ e. eqb (f e) (g e)))) → f (entry_of k) ≡ g (entry_of k)
@@ -60,7 +57,7 @@ module _ (k : ℕ) (low : 1 ≤ k) (high : k ≤ kinds) (from to : ℕ) (is : (f
 
 -- an integer kind is not one-bit
 pub not_one_bit : (k : ℕ) → Says (integer k) → holds (one_bit k) ≡ false
-not_one_bit k two = ne_eqb (entry_of k).element one_bit_element (λ e. omega (arith, e, two))
+not_one_bit k two = ne_eqb (rank (entry_of k).element) one_bit_element (λ e. omega (arith, e, two))
 
 module _ (k r : ℕ) (ok : Legal k r) where
   le_test : (f g : Entry → KnownRole → ℕ) → T (all₂ kinds roles (λ j r. leb (f (line_at j) (role_of r)) (g (line_at j) (role_of r)))) → f (entry_of k) (role_of r) ≤ g (entry_of k) (role_of r)

@@ -1,8 +1,8 @@
 -- Document 01, 'Kinds', and document 02, K5. Assumes nothing.
-use Rattle.std.specs.Prelude.{ℕ, ◌-◌, ◌*◌, ◌/◌, ◌≤◌, List, [], ◌∷◌, get_or, if◌then◌else◌}
-use Rattle.laws.specs.Choice.{◌=?◌}
+use Rattle.std.specs.Prelude.{ℕ, ◌-◌, ◌*◌, ◌/◌, ◌≤◌, List, [], ◌∷◌, get_or}
 use Rattle.answers.specs.Tests.{Test, is, within, Says}
-use Rattle.kinds.specs.declared.Line.{Line}
+use Rattle.kinds.specs.declared.Format.{Format}
+use Rattle.kinds.specs.declared.Format.TheVariants.{OneBit, Int8, Int4, F16, F16Sums, Tf32, F64}
 use Rattle.kinds.specs.declared.Entry.{Entry}
 
 -- A warp has 32 lanes, a quad 4 lanes.
@@ -36,76 +36,80 @@ pub data KnownRole : Type 0 where
 abbrev pub role_of : ℕ → KnownRole
 role_of r = get_or (role_a ∷ role_b ∷ role_c ∷ []) r role_a
 
--- What an element of A and B is: a bit, an integer, a float, in this order.
+-- What an element of A and B is, numbered: a bit, an integer, a float, in this order.
+abbrev pub rank : Format → ℕ
+rank OneBit = 1
+rank Int8 = 2
+rank Int4 = 3
+rank F16 = 4
+rank F16Sums = 5
+rank Tf32 = 6
+rank F64 = 7
+
 abbrev pub one_bit_element : ℕ
-one_bit_element = 1
+one_bit_element = rank OneBit
 
 abbrev pub int8_element : ℕ
-int8_element = 2
+int8_element = rank Int8
 
 abbrev pub int4_element : ℕ
-int4_element = 3
+int4_element = rank Int4
 
-abbrev pub f16_element : ℕ
-f16_element = 4
+abbrev pub one_bit_format : Format → Test
+one_bit_format f = is (rank f) one_bit_element
 
--- the same with f16 sums
-abbrev pub f16_sums_element : ℕ
-f16_sums_element = 5
-
-abbrev pub tf32_element : ℕ
-tf32_element = 6
-
-abbrev pub f64_element : ℕ
-f64_element = 7
+abbrev pub arithmetic_format : Format → Test
+arithmetic_format f = within (rank f) one_bit_element int4_element
 
 -- m, n, k of the shape and the element; bits of an A or B element; words per lane of A, of B, of C or D
-abbrev pub line : (m n k element bits a b c : ℕ) → Line
-line m n k element bits a b c = record { 0 = m; 1 = n; 2 = k; 3 = bits; 4 = element; 5 = a; 6 = b; 7 = c }
+abbrev pub line : (m n k : ℕ) → Format → (bits a b c : ℕ) → Entry
+line m n k element bits a b c = record { m = m; n = n; k = k; bits = bits; element = element; a = a; b = b; c = c }
 
 -- The table, a line a kind.
-abbrev pub table : List Line
+abbrev pub table : List Entry
 table =
-    line 8 8 128 one_bit_element 1 1 1 2
-    ∷ line 16 8 16 int8_element 8 2 1 4
-    ∷ line 16 8 32 int8_element 8 4 2 4
-    ∷ line 16 8 32 int4_element 4 2 1 4
-    ∷ line 16 8 64 int4_element 4 4 2 4
-    ∷ line 16 8 8 f16_element 16 2 1 4
-    ∷ line 16 8 8 f16_sums_element 16 2 1 2
-    ∷ line 16 8 8 tf32_element 32 4 2 4
-    ∷ line 16 8 8 f64_element 64 8 4 8
-    ∷ line 8 8 4 f64_element 64 2 2 4
-    ∷ line 8 8 16 int8_element 8 1 1 2
-    ∷ line 8 8 32 int4_element 4 1 1 2
-    ∷ line 16 8 128 one_bit_element 1 2 1 4
-    ∷ line 16 8 256 one_bit_element 1 4 2 4
+    line 8 8 128 OneBit 1 1 1 2
+    ∷ line 16 8 16 Int8 8 2 1 4
+    ∷ line 16 8 32 Int8 8 4 2 4
+    ∷ line 16 8 32 Int4 4 2 1 4
+    ∷ line 16 8 64 Int4 4 4 2 4
+    ∷ line 16 8 8 F16 16 2 1 4
+    ∷ line 16 8 8 F16Sums 16 2 1 2
+    ∷ line 16 8 8 Tf32 32 4 2 4
+    ∷ line 16 8 8 F64 64 8 4 8
+    ∷ line 8 8 4 F64 64 2 2 4
+    ∷ line 8 8 16 Int8 8 1 1 2
+    ∷ line 8 8 32 Int4 4 1 1 2
+    ∷ line 16 8 128 OneBit 1 2 1 4
+    ∷ line 16 8 256 OneBit 1 4 2 4
     ∷ []
 
 -- C/D elements have 32 bits, except 16 in kind 7 and 64 in kinds 9 and 10.
-abbrev pub sum_bits : (element : ℕ) → ℕ
-sum_bits e = if e =? f16_sums_element then 16 else if e =? f64_element then 64 else 32
+abbrev pub sum_bits : Format → ℕ
+sum_bits OneBit = 32
+sum_bits Int8 = 32
+sum_bits Int4 = 32
+sum_bits F16 = 32
+sum_bits F16Sums = 16
+sum_bits Tf32 = 32
+sum_bits F64 = 64
 
--- the columns by name; the line of a kind
-abbrev pub named : Line → Entry
-named l =
-    record { m = l.0; n = l.1; k = l.2; element = l.4; bits = l.3; a = l.5; b = l.6; c = l.7 }
-
+-- the line of a kind
 abbrev pub line_at : ℕ → Entry
-line_at j = named (get_or table j (line 0 0 0 0 0 0 0 0))
+line_at j = get_or table j (line 0 0 0 Tf32 0 0 0 0)
 
 abbrev pub entry_of : ℕ → Entry
 entry_of k = line_at (k - 1)
 
 -- Kinds 1, 13 and 14 are one-bit, kinds 2 to 5, 11 and 12 integer kinds; these are the arithmetic kinds.
 abbrev pub one_bit : (kind : ℕ) → Test
-one_bit k = is (entry_of k).element one_bit_element
+one_bit k = one_bit_format (entry_of k).element
 
 abbrev pub integer : (kind : ℕ) → Test
-integer k = within (entry_of k).element int8_element int4_element
+integer k = within (rank (entry_of k).element) int8_element int4_element
 
 abbrev pub arithmetic : (kind : ℕ) → Test
-arithmetic k = within (entry_of k).element one_bit_element int4_element
+arithmetic k = arithmetic_format (entry_of k).element
 
 -- a kind that is arithmetic
 pub record Arithmetic (k : ℕ) : Type 0 where

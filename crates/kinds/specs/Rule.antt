@@ -12,16 +12,11 @@ use Rattle.std.specs.Prelude.{ℕ, ◌+◌, ◌*◌, ◌/◌, ◌%◌, Bool, tru
 use Rattle.laws.specs.Choice.{◌<?◌}
 use Rattle.kinds.specs.Kinds.{KnownRole, role_a, role_b, role_c, word_bits, bits, words}
 use Rattle.kinds.specs.declared.Entry.{Entry}
+use Rattle.kinds.specs.declared.Shape.{Shape}
 
--- How one kind and role lies in a warp: bits of an element and words of a lane; elements side by side, halves of eight rows, spans of
--- four times side columns; turned where the major number is the column, as in B.
-pub record Layout : Type 0 where
-  pub bits : ℕ
-  pub words : ℕ
-  pub side : ℕ
-  pub halves : ℕ
-  pub spans : ℕ
-  pub turned : Bool
+-- how one kind and role lies in a warp
+abbrev pub Layout : Type 0
+Layout = Shape
 
 -- lane and element to the major and the minor number
 unfoldable pub major : (p h lane i : ℕ) → ℕ

@@ -3,12 +3,12 @@
 
 ghost use Rattle.std.specs.Prelude.{◌≡◌, ◌<◌, ◌≤◌};
 ghost use Rattle.answers.specs.Refusals.{told};
-ghost use Rattle.answers.specs.Promised.{Replies};
-ghost use Rattle.kinds.specs.Kinds.{kinds, sum_bits, entry_of, role_of};
+ghost use Rattle.answers.specs.Promised.{Replies, Tells};
+ghost use Rattle.kinds.specs.Kinds.{kinds, one_bit_format, arithmetic_format, sum_bits, entry_of, role_of};
 ghost use Rattle.kinds.specs.Places.{word_within, lowest_bit};
 ghost use Rattle.kinds.specs.Rule.{spread, side_of, layout_of, rows_of, columns_of};
 ghost use Rattle.kinds.specs.Laid.{Laid};
-ghost use Rattle.kinds.specs.Workers.{LineAt, layout_call, layouts_of};
+ghost use Rattle.kinds.specs.Workers.{sided, LineAt, layout_call, layouts_of};
 
 use answers::Refusal;
 use std::marker::Model;
@@ -94,22 +94,90 @@ impl Spot {
     }
 }
 
-// A line of the kinds table: m, n, k; bits of an A or B element, and what it is; words per lane of A, of B, of C or D.
-#[derive(Clone, Copy)]
-pub struct Line(
-    pub u16,
-    pub u16,
-    pub u16,
-    pub u16,
-    pub u16,
-    pub u16,
-    pub u16,
-    pub u16,
-);
+// What an element of A and B is: a bit, an integer, a float, in this order.
+#[derive(Clone, Copy, Debug, PartialEq, Eq, PartialOrd, Ord)]
+pub enum Format {
+    OneBit,
+    Int8,
+    Int4,
+    F16,
+    // The same with f16 sums.
+    F16Sums,
+    Tf32,
+    F64,
+}
 
-// The same, and how many elements stand side by side in its A and B: as many as a word holds, or one where an element takes two words.
+impl Format {
+    pub fn is_one_bit(self) -> bool
+        ensures { Tells (one_bit_format self) result }
+    {
+        self == Format::OneBit
+    }
+
+    // A bit or an integer.
+    pub fn is_arithmetic(self) -> bool
+        ensures { Tells (arithmetic_format self) result }
+    {
+        self <= Format::Int4
+    }
+
+    // The bits of a C or D element. Of a `match` the compiler makes a jump for each format, and places take longer.
+    fn sum_bits(self) -> u16
+        ensures { result ≡ sum_bits self }
+    {
+        if self == Format::F16Sums {
+            return 16;
+        }
+        if self == Format::F64 {
+            return 64;
+        }
+        32
+    }
+}
+
+// A line of the kinds table: m, n, k of the shape; bits of an A or B element, and what it is; words per lane of A, of B, of C or D.
 #[derive(Clone, Copy)]
-struct Sided(Line, u16);
+pub struct Entry {
+    pub m: u16,
+    pub n: u16,
+    pub k: u16,
+    pub bits: u16,
+    pub element: Format,
+    pub a: u16,
+    pub b: u16,
+    pub c: u16,
+}
+
+// A line, and how many elements stand side by side in its A and B: as many as a word holds, or one where an element takes two words.
+#[derive(Clone, Copy)]
+struct Sided {
+    line: Entry,
+    side: u16,
+}
+
+fn line(
+    shape: (u16, u16, u16),
+    bits: u16,
+    element: Format,
+    words: (u16, u16, u16),
+    side: u16,
+) -> Sided
+    ensures { result ≡ sided shape.0 shape.1 shape.2 element bits words.0 words.1 words.2 side }
+{
+    let (m, n, k) = shape;
+    let (a, b, c) = words;
+    let line = Entry {
+        m,
+        n,
+        k,
+        bits,
+        element,
+        a,
+        b,
+        c,
+    };
+    Sided { line, side }
+}
 
 // The table, a line a kind. The lines stand in branches of a `match`, which the compiler lays into constant memory: a constant array it would
 // write out anew at each look. That the sides are constants shows it that they are powers of two, so that it divides by none. No kind has the
@@ -118,89 +186,47 @@ fn line_at(number: usize) -> Sided
     ensures { LineAt number result }
 {
     match number {
-        0 => Sided(Line(8, 8, 128, 1, Entry::ONE_BIT, 1, 1, 2), 32),
-        1 => Sided(Line(16, 8, 16, 8, Entry::INT8, 2, 1, 4), 4),
-        2 => Sided(Line(16, 8, 32, 8, Entry::INT8, 4, 2, 4), 4),
-        3 => Sided(Line(16, 8, 32, 4, Entry::INT4, 2, 1, 4), 8),
-        4 => Sided(Line(16, 8, 64, 4, Entry::INT4, 4, 2, 4), 8),
-        5 => Sided(Line(16, 8, 8, 16, Entry::F16, 2, 1, 4), 2),
-        6 => Sided(Line(16, 8, 8, 16, Entry::F16_SUMS, 2, 1, 2), 2),
-        7 => Sided(Line(16, 8, 8, 32, Entry::TF32, 4, 2, 4), 1),
-        8 => Sided(Line(16, 8, 8, 64, Entry::F64, 8, 4, 8), 1),
-        9 => Sided(Line(8, 8, 4, 64, Entry::F64, 2, 2, 4), 1),
-        10 => Sided(Line(8, 8, 16, 8, Entry::INT8, 1, 1, 2), 4),
-        11 => Sided(Line(8, 8, 32, 4, Entry::INT4, 1, 1, 2), 8),
-        12 => Sided(Line(16, 8, 128, 1, Entry::ONE_BIT, 2, 1, 4), 32),
-        13 => Sided(Line(16, 8, 256, 1, Entry::ONE_BIT, 4, 2, 4), 32),
-        _ => Sided(Line(0, 0, 0, 32, 0, 0, 0, 0), 1),
+        0 => line((8, 8, 128), 1, Format::OneBit, (1, 1, 2), 32),
+        1 => line((16, 8, 16), 8, Format::Int8, (2, 1, 4), 4),
+        2 => line((16, 8, 32), 8, Format::Int8, (4, 2, 4), 4),
+        3 => line((16, 8, 32), 4, Format::Int4, (2, 1, 4), 8),
+        4 => line((16, 8, 64), 4, Format::Int4, (4, 2, 4), 8),
+        5 => line((16, 8, 8), 16, Format::F16, (2, 1, 4), 2),
+        6 => line((16, 8, 8), 16, Format::F16Sums, (2, 1, 2), 2),
+        7 => line((16, 8, 8), 32, Format::Tf32, (4, 2, 4), 1),
+        8 => line((16, 8, 8), 64, Format::F64, (8, 4, 8), 1),
+        9 => line((8, 8, 4), 64, Format::F64, (2, 2, 4), 1),
+        10 => line((8, 8, 16), 8, Format::Int8, (1, 1, 2), 4),
+        11 => line((8, 8, 32), 4, Format::Int4, (1, 1, 2), 8),
+        12 => line((16, 8, 128), 1, Format::OneBit, (2, 1, 4), 32),
+        13 => line((16, 8, 256), 1, Format::OneBit, (4, 2, 4), 32),
+        _ => line((0, 0, 0), 32, Format::Tf32, (0, 0, 0), 1),
     }
-}
-
-// A line with its columns named.
-#[derive(Clone, Copy)]
-pub struct Entry {
-    pub m: u16,
-    pub n: u16,
-    pub k: u16,
-    pub bits: u16,
-    pub element: u16,
-    pub a: u16,
-    pub b: u16,
-    pub c: u16,
 }
 
 impl Entry {
-    // What an element is: a bit, an integer, a float, in this order.
-    pub const ONE_BIT: u16 = 1;
-
-    pub const INT8: u16 = 2;
-
-    pub const INT4: u16 = 3;
-
-    pub const F16: u16 = 4;
-
-    // The same with f16 sums.
-    pub const F16_SUMS: u16 = 5;
-
-    pub const TF32: u16 = 6;
-
-    pub const F64: u16 = 7;
-
-    // The bits of a C or D element, by what an element of A and B is.
-    fn sum_bits(element: u16) -> u16
-        ensures { result ≡ sum_bits element }
-    {
-        if element == Entry::F16_SUMS {
-            return 16;
-        }
-        if element == Entry::F64 {
-            return 64;
-        }
-        32
-    }
-
     // The line of a kind.
     pub fn of(kind: Kind) -> Entry
         requires { (1 ≤ kind.0) × (kind.0 ≤ kinds) }
-        ensures is { result ≡ entry_of kind.0 }
-        ensures element { (result.element ≡ (entry_of kind.0).element) × (1 ≤ result.element) }
+        ensures { result ≡ entry_of kind.0 }
     {
-        let line = line_at((kind.0 - 1) as usize).0;
-        Entry {
-            m: line.0,
-            n: line.1,
-            k: line.2,
-            bits: line.3,
-            element: line.4,
-            a: line.5,
-            b: line.6,
-            c: line.7,
-        }
+        line_at((kind.0 - 1) as usize).line
     }
 }
 
 // How one kind and role lies in a warp: bits of an element and words of a lane; elements side by side, halves of eight rows, spans of
 // four times side columns; turned where the major number is the column, as in B.
+#[derive(Clone, Copy)]
+pub struct Shape {
+    pub bits: usize,
+    pub words: usize,
+    pub side: usize,
+    pub halves: usize,
+    pub spans: usize,
+    pub turned: bool,
+}
+
+// The same of a kind and a role of the table: its numbers are as theirs are, which is the type's own fact.
 #[derive(Clone, Copy)]
 pub struct Layout {
     pub bits: usize,
@@ -247,7 +273,7 @@ fn side_of(kind: Kind) -> u16
     ensures is { result ≡ side_of (entry_of kind.0).bits }
     ensures some { 0 < result }
 {
-    line_at((kind.0 - 1) as usize).1
+    line_at((kind.0 - 1) as usize).side
 }
 
 fn layout_in(e: Entry, side: u16, role: Role) -> Layout
@@ -256,7 +282,7 @@ fn layout_in(e: Entry, side: u16, role: Role) -> Layout
 {
     let r = role.0;
     if r == Role::C {
-        return Layout::new(Entry::sum_bits(e.element), e.c, 2, e.m, e.n, false);
+        return Layout::new(e.element.sum_bits(), e.c, 2, e.m, e.n, false);
     }
     if r == Role::B {
         return Layout::new(e.bits, e.b, side, e.n, e.k, true);
@@ -277,6 +303,20 @@ impl Layout {
 }
 
 impl Layout {
+    // Its numbers alone, for the steps, whose own facts say more of them.
+    pub fn shape(&self) -> Shape
+        ensures { result ≡ self.now }
+    {
+        Shape {
+            bits: self.bits,
+            words: self.words,
+            side: self.side,
+            halves: self.halves,
+            spans: self.spans,
+            turned: self.turned,
+        }
+    }
+
     // The rows and the columns of the matrix.
     pub fn rows(&self) -> usize
         ensures is { result ≡ rows_of self.now }
@@ -302,9 +342,9 @@ impl Layout {
 // The layouts of a kind's A, B and C.
 #[derive(Clone, Copy)]
 pub struct Layouts {
-    pub a: Layout,
-    pub b: Layout,
-    pub c: Layout,
+    pub a: Shape,
+    pub b: Shape,
+    pub c: Shape,
 }
 
 impl Layouts {
@@ -317,7 +357,11 @@ impl Layouts {
         let a = layout_in(e, side, Role(Role::A));
         let b = layout_in(e, side, Role(Role::B));
         let c = layout_in(e, side, Role(Role::C));
-        Layouts { a, b, c }
+        Layouts {
+            a: a.shape(),
+            b: b.shape(),
+            c: c.shape(),
+        }
     }
 }
 

@@ -157,7 +157,7 @@ fn unused_not_zero(record: &[u8], kind: Kind) -> bool
         return false;
     }
     let line = Entry::of(kind);
-    if Entry::INT4 < line.element {
+    if !line.element.is_arithmetic() {
         return false;
     }
     stray_tail(record, kind, line)

@@ -19,7 +19,7 @@ use Rattle.answers.proofs.Shows.{denied, deny}
 use Rattle.kinds.specs.Kinds.{entry_of, rows_at, columns_at, one_bit_element, int4_element, Legal, Arithmetic}
 use Rattle.kinds.specs.Rule.{rows_of, columns_of}
 use Rattle.kinds.specs.declared.Entry.{Entry}
-use Rattle.kinds.specs.declared.Layout.{Layout}
+use Rattle.kinds.specs.Rule.{Layout}
 use Rattle.kinds.proofs.Table.{layout_at, rows_are, columns_are, sane, among_≡, among_≤}
 use Rattle.buffers.specs.Buffers.{Fitting, index, unpacked_of, packed, entries_needed, words_needed}
 use Rattle.buffers.proofs.Places.{columns_pos}

@@ -67,11 +67,11 @@ pub markable_wraps : (kind mode : ℕ) → mode ≡ 0 → markable kind mode ≡
 unfolding markable
 markable_wraps kind mode e = ap (λ (t : Bool). if t then 0 else words_needed kind 2) ((says (cannot_clamp kind mode)).1 (inl e))
 
-pub markable_bits : (kind mode : ℕ) → (entry_of kind).element ≡ one_bit_element → markable kind mode ≡ 0
+pub markable_bits : (kind mode : ℕ) → Says (one_bit kind) → markable kind mode ≡ 0
 unfolding markable
 markable_bits kind mode e = ap (λ (t : Bool). if t then 0 else words_needed kind 2) ((says (cannot_clamp kind mode)).1 (inr e))
 
-pub markable_words : (kind mode : ℕ) → (mode ≡ 0 → ⊥) → ((entry_of kind).element ≡ one_bit_element → ⊥) → markable kind mode ≡ words_needed kind 2
+pub markable_words : (kind mode : ℕ) → (mode ≡ 0 → ⊥) → (Says (one_bit kind) → ⊥) → markable kind mode ≡ words_needed kind 2
 unfolding markable
 markable_words kind mode n o = ap (λ (t : Bool). if t then 0 else words_needed kind 2) (deny (cannot_clamp kind mode) (n, o))
 

@@ -14,7 +14,7 @@ ghost use Rattle.run.specs.RunCalls.{max_blocks, open_call, feed_call, read_call
 ghost use Rattle.run.specs.Workers.{markable, mark_from, run_call, sums_call, words_call};
 
 use answers::Refusal;
-use kinds::{Entry, Kind, Mode, Signs};
+use kinds::{Kind, Mode, Signs};
 use step_work::Selected;
 
 #[derive(Clone, Copy, Debug, PartialEq, Eq)]
@@ -113,7 +113,7 @@ impl Run {
         if m == 0 {
             return 0;
         }
-        if s.line.element == Entry::ONE_BIT {
+        if s.line.element.is_one_bit() {
             return 0;
         }
         s.lengths().c / 32

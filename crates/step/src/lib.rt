@@ -27,7 +27,7 @@ pub fn select(kind: Kind, signs: Signs, mode: Mode) -> Result<Selected, Refusal>
         return Err(Refusal::UnknownKind);
     }
     let line = Entry::of(kind);
-    if Entry::INT4 < line.element {
+    if !line.element.is_arithmetic() {
         return Err(Refusal::NotArithmetic);
     }
     if 3 < s {
@@ -36,7 +36,7 @@ pub fn select(kind: Kind, signs: Signs, mode: Mode) -> Result<Selected, Refusal>
     if 1 < m {
         return Err(Refusal::BadSelectors);
     }
-    if line.element == Entry::ONE_BIT {
+    if line.element.is_one_bit() {
         if s != 0 {
             return Err(Refusal::BadSelectors);
         }

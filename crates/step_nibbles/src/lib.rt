@@ -11,7 +11,7 @@ ghost use Rattle.step_limit.specs.Workers.{with_marks};
 ghost use Rattle.step_products.specs.Sums.{Dots, straight, Digits, Digitised, Summable, digits_word, digits_mark, digits_words, digits_marks};
 ghost use Rattle.step_nibbles.specs.Planes.{Planes, Small, Nibbled};
 
-use kinds::{Element, Lane, Layout, Layouts, Mode};
+use kinds::{Element, Lane, Layouts, Mode, Shape};
 use step_limit::Cell;
 use step_products::{Dot, Offsets, Split};
 
@@ -30,7 +30,7 @@ fn mask_of(offset: u64) -> u32
 }
 
 // The digits of a side by its major and minor numbers.
-pub fn digits(words: &[u32], out: &mut [u8; 1024], side: Layout, offset: u64)
+pub fn digits(words: &[u32], out: &mut [u8; 1024], side: Shape, offset: u64)
     requires { Digitised (straight side) words.now out.old × ((offset ≡ 0) ⊎ (offset ≡ 2 ^ (side.bits - 1))) × (side.bits ≡ 4) }
     ensures { Digits side offset words.now out.new }
 {

@@ -16,8 +16,8 @@ use Rattle.laws.specs.Toward.{Brings}
 use Rattle.laws.proofs.Fields.{field_joined}
 use Rattle.laws.proofs.Lists.{get_or_tab}
 use Rattle.kinds.specs.Rule.{shape, majors, minors, lane_of, element_of}
-use Rattle.kinds.specs.Workers.{Laid}
-use Rattle.kinds.specs.declared.Layout.{Layout}
+use Rattle.kinds.specs.Laid.{Laid}
+use Rattle.kinds.specs.Rule.{Layout}
 use Rattle.buffers.specs.Buffers.{element_at}
 use Rattle.buffers.proofs.Elements.{element_lt}
 use Rattle.buffers.proofs.Places.{stretch_fills}

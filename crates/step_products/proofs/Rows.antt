@@ -12,7 +12,7 @@ use Rattle.laws.specs.Fields.{field}
 use Rattle.laws.proofs.Lists.{block_le}
 use Rattle.kinds.specs.Kinds.{lanes}
 use Rattle.kinds.specs.Rule.{majors, minors, lane_of, element_of}
-use Rattle.kinds.specs.declared.Layout.{Layout}
+use Rattle.kinds.specs.Rule.{Layout}
 use Rattle.kinds.proofs.Digits.{lane_lt, element_lt, word_lane, word_element}
 use Rattle.buffers.proofs.Elements.{element_field}
 use Rattle.buffers.proofs.Places.{stretch_fills}

@@ -11,7 +11,7 @@ use Rattle.laws.specs.Toward.{Below, At}
 use Rattle.laws.proofs.Lists.{get_or_tab, length_tab}
 use Rattle.kinds.specs.Kinds.{lanes}
 use Rattle.kinds.specs.Rule.{major, minor, minors}
-use Rattle.kinds.specs.declared.Layout.{Layout}
+use Rattle.kinds.specs.Rule.{Layout}
 use Rattle.kinds.specs.declared.Layouts.{Layouts}
 use Rattle.step_limit.specs.Limits.{cell_of, mark_of}
 use Rattle.step_limit.proofs.Cells.{mark_le}

@@ -9,8 +9,8 @@ use Rattle.laws.specs.Integers.{sum_z}
 use Rattle.laws.specs.Lists.{tab, blocks}
 use Rattle.kinds.specs.Kinds.{lanes}
 use Rattle.kinds.specs.Rule.{shape, majors, minors, lane_of, element_of, major, minor}
-use Rattle.kinds.specs.Workers.{Laid}
-use Rattle.kinds.specs.declared.Layout.{Layout}
+use Rattle.kinds.specs.Laid.{Laid}
+use Rattle.kinds.specs.Rule.{Layout}
 use Rattle.kinds.specs.declared.Layouts.{Layouts}
 use Rattle.buffers.specs.Buffers.{element_at}
 use Rattle.step_limit.specs.Limits.{cell_of, mark_of}

@@ -10,7 +10,7 @@ ghost use Rattle.kinds.specs.Rule.{shape, lane_of, element_of};
 ghost use Rattle.step_limit.specs.Workers.{with_marks};
 ghost use Rattle.step_products.specs.Sums.{Dots, straight, masked, Digits, Digitised, Summable, digits_words, digits_marks};
 
-use kinds::{Element, Lane, Layout, Layouts, Mode};
+use kinds::{Element, Lane, Layouts, Mode, Shape};
 
 // How far the digits of A and of B stand too high.
 #[derive(Clone, Copy)]
@@ -143,7 +143,7 @@ pub fn put_digits(
 
 // The digits of a side by its major and minor numbers, of A by rows and of B by columns: the matrix of the layout that is not turned. An
 // offset is nothing or a sign bit's weight, and to add that is to turn the bit over.
-pub fn digits(words: &[u32], out: &mut [u8; 1024], side: Layout, offset: u64)
+pub fn digits(words: &[u32], out: &mut [u8; 1024], side: Shape, offset: u64)
     requires { Digitised (straight side) words.now out.old × ((offset ≡ 0) ⊎ (offset ≡ 2 ^ (side.bits - 1))) × (side.bits ≡ 8) }
     ensures { Digits side offset words.now out.new }
 {

@@ -17,10 +17,10 @@ use Rattle.laws.proofs.Lists.{length_tab, get_or_tab, tab_ext}
 use Rattle.laws.proofs.Integers.{word_lt}
 use Rattle.kinds.specs.Kinds.{lanes, entry_of, role_of, sum_bits, rows, columns, rows_at, columns_at, kinds, one_bit_element, int8_element, int4_element, integer, Legal, Arithmetic}
 use Rattle.kinds.specs.Rule.{side_of, elements_of, rows_of, columns_of, lane_of, element_of, major, minor, place_in, holder_of}
-use Rattle.kinds.specs.Workers.{Laid}
+use Rattle.kinds.specs.Laid.{Laid}
 use Rattle.answers.specs.Tests.{Says}
 use Rattle.kinds.specs.declared.Entry.{Entry}
-use Rattle.kinds.specs.declared.Layout.{Layout}
+use Rattle.kinds.specs.Rule.{Layout}
 use Rattle.kinds.proofs.Table.{among, among_≡, among_≤, layout_at, sane, rows_are, columns_are}
 use Rattle.buffers.specs.Buffers.{index, element_at, entry_at, unpacked_of, word_at, packed, words_needed}
 use Rattle.buffers.specs.Buffers.{Fitting}

@@ -11,8 +11,9 @@ use Rattle.laws.specs.Lists.{tab, blocks}
 use Rattle.laws.proofs.Lists.{get_or_tab, tab_ext}
 use Rattle.kinds.specs.Kinds.{lanes, entry_of, integer}
 use Rattle.kinds.specs.Rule.{majors, minors, major, minor}
-use Rattle.kinds.specs.Workers.{Laid, layouts_of}
-use Rattle.kinds.specs.declared.Layout.{Layout}
+use Rattle.kinds.specs.Laid.{Laid}
+use Rattle.kinds.specs.Workers.{layouts_of}
+use Rattle.kinds.specs.Rule.{Layout}
 use Rattle.kinds.specs.declared.Layouts.{Layouts}
 use Rattle.kinds.proofs.Digits.{major_lt, minor_lt}
 use Rattle.kinds.proofs.Table.{not_one_bit, layout_at, sane}

@@ -130,7 +130,7 @@ impl Selected {
         ensures marks { marks.new ≡ kept_marks marks.old (cuts self.kind.0 self.signs.0 self.mode.0
             a.now b.now c.now) }
     {
-        if self.line.element == Entry::ONE_BIT {
+        if self.line.element.is_one_bit() {
             count(self.kind, self.line, self.mode, a, b, c, d);
             return;
         }

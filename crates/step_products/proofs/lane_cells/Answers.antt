@@ -4,7 +4,7 @@ use Rattle.laws.specs.Toward.{Brings, Below}
 use Rattle.laws.proofs.Lists.{block_le}
 use Rattle.laws.proofs.Toward.{brings_none, brings_more, brings_set}
 use Rattle.kinds.specs.Rule.{minor, minors}
-use Rattle.kinds.specs.declared.Layout.{Layout}
+use Rattle.kinds.specs.Rule.{Layout}
 use Rattle.kinds.proofs.Digits.{minor_lt}
 use Rattle.step_products.specs.Sums.{digits_words, digits_marks}
 use Rattle.step_limit.specs.Workers.{with_mark, with_marks}

@@ -1,7 +1,7 @@
 use Rattle.std.proofs.Common.{◌≡◌, ℕ, ◌+◌, ◌*◌}
 use Rattle.laws.specs.Toward.{Brings, Below, At}
 use Rattle.kinds.specs.Rule.{minors}
-use Rattle.kinds.specs.declared.Layout.{Layout}
+use Rattle.kinds.specs.Rule.{Layout}
 use Rattle.step_limit.specs.Workers.{with_marks}
 use Rattle.step_products.proofs.Worded.{words_by, marks_by}
 use Rattle.step_products.proofs.lane_cells.Given as goal

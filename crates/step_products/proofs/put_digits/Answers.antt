@@ -7,7 +7,7 @@ use Rattle.laws.specs.Toward.{Brings, Below, At, stores}
 use Rattle.laws.proofs.Toward.{brings_more, brings_on, brings_stores}
 use Rattle.kinds.specs.Kinds.{lanes}
 use Rattle.kinds.specs.Rule.{majors, minors}
-use Rattle.kinds.specs.declared.Layout.{Layout}
+use Rattle.kinds.specs.Rule.{Layout}
 use Rattle.buffers.proofs.Places.{stretch_fills}
 use Rattle.step_products.specs.Sums.{masked}
 use Rattle.step_products.proofs.Rows as rows

@@ -1,7 +1,7 @@
 use Rattle.std.proofs.Common.{ℕ, ◌+◌, ◌*◌, ◌/◌, false}
 use Rattle.laws.specs.Toward.{Brings, Below, At}
 use Rattle.kinds.specs.Rule.{shape}
-use Rattle.kinds.specs.declared.Layout.{Layout}
+use Rattle.kinds.specs.Rule.{Layout}
 use Rattle.step_products.specs.Sums.{masked}
 use Rattle.step_products.proofs.put_digits.Given as goal
 

@@ -2,7 +2,7 @@
 use Rattle.std.proofs.Common.{◌≡◌, ℕ, ◌-◌, ◌*◌, ◌^◌, ◌<◌, ◌≤◌, Bool, true, false, List, length, get_or, ◌⊎◌, inl, inr, refl, sym, ap, ◌∙◌, arith}
 use Rattle.kinds.specs.Kinds.{lanes}
 use Rattle.kinds.specs.Rule.{majors, minors}
-use Rattle.kinds.specs.Workers.{Laid}
+use Rattle.kinds.specs.Laid.{Laid}
 use Rattle.kinds.specs.declared.Layouts.{Layouts}
 use Rattle.step_products.specs.Sums.{offset_of, straight, Digits, Digitised, Summable, digits_words, digits_marks}
 use Rattle.step_products.specs.declared.Offsets.{Offsets}

@@ -9,4 +9,4 @@ pub layout_in-requires : goal.layout_in-requires
 layout_in-requires c =
     let e = c.of-e in
     let k = c.requires in
-    (c.side_of-side.ensures.is ∙ ap (λ (e : Entry). side_of e.bits) (sym e.ensures.is), k.2, sane_in c.args.kind.0 c.args.role.0 e.result e.ensures.is k.0 k.1 k.2)
+    (c.side_of-side.ensures.is ∙ ap (λ (e : Entry). side_of e.bits) (sym e.ensures), k.2, sane_in c.args.kind.0 c.args.role.0 e.result e.ensures k.0 k.1 k.2)

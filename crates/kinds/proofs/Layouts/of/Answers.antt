@@ -9,16 +9,16 @@ pub layout_in-a-requires : goal.layout_in-a-requires
 layout_in-a-requires c =
     let e = c.of-e in
     let k = c.requires in
-    (c.side_of-side.ensures.is ∙ ap (λ (e : Entry). side_of e.bits) (sym e.ensures.is), omega arith, sane_in c.args.kind.0 0 e.result e.ensures.is k.0 k.1 (omega arith))
+    (c.side_of-side.ensures.is ∙ ap (λ (e : Entry). side_of e.bits) (sym e.ensures), omega arith, sane_in c.args.kind.0 0 e.result e.ensures k.0 k.1 (omega arith))
 
 pub layout_in-b-requires : goal.layout_in-b-requires
 layout_in-b-requires c =
     let e = c.of-e in
     let k = c.requires in
-    (c.side_of-side.ensures.is ∙ ap (λ (e : Entry). side_of e.bits) (sym e.ensures.is), omega arith, sane_in c.args.kind.0 1 e.result e.ensures.is k.0 k.1 (omega arith))
+    (c.side_of-side.ensures.is ∙ ap (λ (e : Entry). side_of e.bits) (sym e.ensures), omega arith, sane_in c.args.kind.0 1 e.result e.ensures k.0 k.1 (omega arith))
 
 pub layout_in-c-requires : goal.layout_in-c-requires
 layout_in-c-requires c =
     let e = c.of-e in
     let k = c.requires in
-    (c.side_of-side.ensures.is ∙ ap (λ (e : Entry). side_of e.bits) (sym e.ensures.is), omega arith, sane_in c.args.kind.0 2 e.result e.ensures.is k.0 k.1 (omega arith))
+    (c.side_of-side.ensures.is ∙ ap (λ (e : Entry). side_of e.bits) (sym e.ensures), omega arith, sane_in c.args.kind.0 2 e.result e.ensures k.0 k.1 (omega arith))
