@@ -4,6 +4,3 @@ use Rattle.pack.proofs.first_wide.Given as goal
 
 abbrev pub invariant-loop-i : goal.invariant-loop-i
 invariant-loop-i l = (l.i ≤ length l.matrix) × ((k : ℕ) → k < l.i → get_or l.matrix k 0 < 2 ^ l.bits)
-
-abbrev pub decreases-loop-i : goal.decreases-loop-i
-decreases-loop-i l = length l.matrix - l.i

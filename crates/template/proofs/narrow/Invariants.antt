@@ -5,6 +5,3 @@ use Rattle.template.proofs.narrow.Given as goal
 
 abbrev pub invariant-loop-x : goal.invariant-loop-x
 invariant-loop-x l = (l.x ≤ length l.matrix) × (l.«record» ≡ fills 0 l.x (λ (k : ℕ). get_or l.matrix k 0) l.initial.«record»)
-
-abbrev pub decreases-loop-x : goal.decreases-loop-x
-decreases-loop-x l = length l.matrix - l.x

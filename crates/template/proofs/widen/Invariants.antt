@@ -5,6 +5,3 @@ use Rattle.template.proofs.widen.Given as goal
 
 abbrev pub invariant-loop-x : goal.invariant-loop-x
 invariant-loop-x l = (l.x ≤ length l.«record») × (l.matrix ≡ fills 0 l.x (λ (k : ℕ). get_or l.«record» k 0) l.initial.matrix)
-
-abbrev pub decreases-loop-x : goal.decreases-loop-x
-decreases-loop-x l = length l.«record» - l.x
