@@ -22,7 +22,7 @@ use Rattle.answers.proofs.Words.{says}
 use Rattle.answers.proofs.Demand1 as every
 use Rattle.laws.specs.Choice.{◌=?◌}
 use Rattle.laws.proofs.Every.{all, all_at}
-use Rattle.kinds.specs.Kinds.{kinds, role_c, line_at, entry_of, bits, bits_at, one_bit_element, int8_element, int4_element, one_bit, integer, arithmetic}
+use Rattle.kinds.specs.Kinds.{kinds, rank, role_c, line_at, entry_of, bits, bits_at, one_bit_element, int8_element, int4_element, one_bit, integer, arithmetic}
 use Rattle.kinds.specs.declared.Entry.{Entry}
 use Rattle.places.specs.PlaceCalls.{place_call, find_call}
 use Rattle.unpack.specs.UnpackCall.{unpack_call}
@@ -151,13 +151,13 @@ module _ (of-line : Entry → Test) (of-kind : (kind : ℕ) → Test) where
       )
 
 pub arithmetic_kinds : (k : ℕ) → 1 ≤ k → k ≤ 14 → Says (arithmetic k) ↔ (((1 ≤ k) × (k ≤ 5)) ⊎ ((11 ≤ k) × (k ≤ 14)))
-arithmetic_kinds = kinds_are (λ e. within e.element one_bit_element int4_element) (λ k. either (within k 1 5) (within k 11 14)) tt tt
+arithmetic_kinds = kinds_are (λ e. within (rank e.element) one_bit_element int4_element) (λ k. either (within k 1 5) (within k 11 14)) tt tt
 
 pub one_bit_kinds : (k : ℕ) → 1 ≤ k → k ≤ 14 → Says (one_bit k) ↔ ((k ≡ 1) ⊎ ((13 ≤ k) × (k ≤ 14)))
-one_bit_kinds = kinds_are (λ e. is e.element one_bit_element) (λ k. either (is k 1) (within k 13 14)) tt tt
+one_bit_kinds = kinds_are (λ e. is (rank e.element) one_bit_element) (λ k. either (is k 1) (within k 13 14)) tt tt
 
 pub integer_kinds : (k : ℕ) → 1 ≤ k → k ≤ 14 → Says (integer k) ↔ (((2 ≤ k) × (k ≤ 5)) ⊎ ((11 ≤ k) × (k ≤ 12)))
-integer_kinds = kinds_are (λ e. within e.element int8_element int4_element) (λ k. either (within k 2 5) (within k 11 12)) tt tt
+integer_kinds = kinds_are (λ e. within (rank e.element) int8_element int4_element) (λ k. either (within k 2 5) (within k 11 12)) tt tt
 
 -- C/D elements have 32 bits, except 16 in kind 7 and 64 in kinds 9 and 10; document 02, K5: C as kind 1 for 11 and 12, as kind 2 for 13 and 14.
 abbrev pub sum_bits_in : (kind : ℕ) → ℕ
