@@ -204,7 +204,7 @@ stepped_only k signs mode known a b c ws n fit at =
     let ok : Legal k 2 = record { low = known.low; high = known.high; role = omega arith } in
     let m = rows_at k 2 in
     let w = columns_at k 2 in
-    let size : length (unpacked_of k 2 ws) ≡ m * w = unpacked_length (layout_at k 2) (sane k 2 ok) ws ∙ entries_needed_lem k 2 ok in
+    let size : length (unpacked_of k 2 ws) ≡ m * w = unpacked_length (layout_at k 2) ws ∙ entries_needed_lem k 2 ok in
     let some : 0 < w = subst (λ (z : ℕ). 0 < z) (sym (columns_are k 2 ok)) (columns_pos (layout_at k 2) (sane k 2 ok)) in
     sym (unpack_pack k 2 ok ws n fit)
     ∙ ap (packed_of k 2)

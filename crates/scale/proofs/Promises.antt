@@ -8,16 +8,15 @@ use native.Mathlib.Omega.{arith}
 use lib.IntN.{ℤ, pos, negsuc, sub_ℕ}
 use lib.ListN.{length, get_or, set, take, length-map, get_or-map}
 use lib.Signed.{◌≤ℤ◌}
+use Rattle.std.specs.Prelude.{Ok}
 use Rattle.laws.specs.Lists.{tab}
 use Rattle.laws.proofs.Lists.{length_tab, get_d_any, get_or_tab}
 use Rattle.kinds.specs.Kinds.{lanes}
-use Rattle.answers.specs.Refusals.{Answer, given, refusal, told}
+use Rattle.answers.specs.Refusals.{Answer, given, refusal, told, Verdict}
 use Rattle.answers.specs.Calls.{Line, ◌then◌, judgement, Gives}
 use Rattle.answers.specs.Tests.{somewhere, Says, first_true, first_of}
 use Rattle.answers.specs.Right.{Passes}
 use Rattle.answers.specs.Promised.{Meets}
-use Rattle.answers.specs.declared.Verdict.{Verdict}
-use Rattle.answers.specs.declared.Verdict.TheVariants.{Accepted}
 use Rattle.answers.proofs.Words.{first_somewhere}
 use Rattle.answers.proofs.Demand1.{gives_after, verdict_refused_when, accepted_passing, accepted_leaves}
 use Rattle.scale.specs.Bytes.{legal_size, legal_side, legal_byte_id, legal_thread_id, takes, chosen_lanes, byte_of, chosen_bytes, exponent, scaled, metadata_length, output_length}
@@ -69,7 +68,7 @@ module _ (size side byteId threadId : ℕ) (metadata : List ℕ) (output : List 
 
   module _ {left : List ℤ} {verdict : Verdict} (m : Meets (scale_call size side byteId threadId metadata output) output verdict left) where
     -- '255 in a chosen byte refuses the call': it is accepted exactly when the selectors and the lengths are legal and no byte for the output is 255;
-    pub accepted_exactly : (verdict ≡ Accepted) ↔ (LegalCall × NoneBefore (length output))
+    pub accepted_exactly : (verdict ≡ Ok tt) ↔ (LegalCall × NoneBefore (length output))
     accepted_exactly = (λ e. there ((accepted_passing m).0 e), λ q. (accepted_passing m).1 (back q))
       where
         there : Passes (scale_call size side byteId threadId metadata output).refusals → LegalCall × NoneBefore (length output)
@@ -109,7 +108,7 @@ module _ (size side byteId threadId : ℕ) (metadata : List ℕ) (output : List 
             (search l, inl (f.0, refl, f.1))
 
     -- 'Exponents run from -127 to 127': each number that an accepted call writes is its byte less 127, and lies there.
-    pub numbers_written : verdict ≡ Accepted → (i : ℕ) → i < length output
+    pub numbers_written : verdict ≡ Ok tt → (i : ℕ) → i < length output
         → (get_or left i (pos 0) ≡ sub_ℕ (byte_for i) 127) × (sub_ℕ 0 127 ≤ℤ get_or left i (pos 0)) × (get_or left i (pos 0) ≤ℤ pos 127)
     unfolding scaled
     numbers_written e i h =

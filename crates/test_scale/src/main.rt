@@ -1,10 +1,8 @@
 // Shows what `scale` answers: the figures of document 01 and of byte 255, whole outputs of each side and size, and each refusal.
 #![tactic(auto)]
 
-use answers::Verdict;
 use scale::{ByteId, Side, Size, ThreadId};
-use std::io;
-use test_print::{print_number, print_refusal, print_signed, print_text};
+use std::{fmt, io};
 
 // The figures' metadata word, in every lane.
 const WORD: [u32; 32] = [0x807F0100; 32];
@@ -20,233 +18,165 @@ const VARIED: [u32; 32] = [
     0xC0603018, 0xC8643219, 0xD068341A, 0xD86C361B, 0xE070381C, 0xE8743A1D, 0xF0783C1E, 0xF87C3E1F,
 ];
 
-fn print_all(rt: &impl Print, out: &[i32]) -> io::Result<()> {
-    for z in out {
-        print_text(rt, b" ")?;
-        print_signed(rt, *z)?;
-    }
-    Ok(())
-}
+// Numbers of the longest output.
+const LONGEST: usize = 64;
 
-fn print_side(rt: &impl Print, side: u32) -> io::Result<()> {
-    if side == Side::A {
-        print_text(rt, b"A")
-    } else if side == Side::B {
-        print_text(rt, b"B")
-    } else {
-        print_number(rt, b"", side as u64)
-    }
-}
-
-// A call's size, side, byte-id and thread-id.
+// A call's size, side, byte-id and thread-id, and the length of its output.
 #[derive(Clone, Copy)]
-struct Selectors(u32, u32, u32, u32);
+struct Call(u32, u32, u32, u32, usize);
 
-fn print_selectors(rt: &impl Print, selectors: Selectors) -> io::Result<()> {
-    print_number(rt, b"size ", selectors.0 as u64)?;
-    print_text(rt, b" side ")?;
-    print_side(rt, selectors.1)?;
-    print_number(rt, b" byte-id ", selectors.2 as u64)?;
-    print_number(rt, b" thread-id ", selectors.3 as u64)
-}
-
-// One call, to so many numbers.
-fn show(rt: &impl Print, selectors: Selectors, metadata: &[u32], n: usize) -> io::Result<()> {
-    let mut out: [i32; 64] = [0; 64];
-    show_cut(rt, selectors, metadata, &mut out, n)
-}
-
-fn show_cut(
-    rt: &impl Print,
-    selectors: Selectors,
-    metadata: &[u32],
-    out: &mut [i32],
-    n: usize,
-) -> io::Result<()> {
-    if n <= out.len() {
-        show_in(rt, selectors, metadata, &mut out[0..n])?;
+impl fmt::Display for Call {
+    fn fmt<W: fmt::Write>(&self, f: &mut fmt::Formatter<W>) -> fmt::Result {
+        let Call(size, side, byte_id, thread_id, _) = *self;
+        write!(f, "size {size} side ")?;
+        match side {
+            Side::A => f.write_str("A")?,
+            Side::B => f.write_str("B")?,
+            _ => write!(f, "{side}")?,
+        }
+        write!(f, " byte-id {byte_id} thread-id {thread_id}")
     }
-    Ok(())
 }
 
-// Its selectors, the lengths of its buffers, and what it answers.
-fn show_in(
-    rt: &impl Print,
-    selectors: Selectors,
-    metadata: &[u32],
-    out: &mut [i32],
-) -> io::Result<()> {
-    print_selectors(rt, selectors)?;
-    print_number(rt, b", ", metadata.len() as u64)?;
-    print_number(rt, b" words to ", out.len() as u64)?;
-    print_text(rt, b" numbers:")?;
-    let verdict = scale::scale(
-        Size(selectors.0),
-        Side(selectors.1),
-        ByteId(selectors.2),
-        ThreadId(selectors.3),
+// The call, the lengths of its buffers, and what it answers.
+fn show(rt: &impl Print, metadata: &[u32], call: Call) -> io::Result<()> {
+    let Call(size, side, byte_id, thread_id, numbers) = call;
+    let mut room: [i32; LONGEST] = [0; LONGEST];
+    let out = &mut room[..numbers.min(LONGEST)];
+    print!(rt;
+        "{call}, {} words to {} numbers:",
+        metadata.len(),
+        out.len()
+    )?;
+    let answer = scale::scale(
+        Size(size),
+        Side(side),
+        ByteId(byte_id),
+        ThreadId(thread_id),
         metadata,
         out,
     );
-    print_answer(rt, verdict, out)
-}
-
-fn print_answer(rt: &impl Print, verdict: Verdict, out: &[i32]) -> io::Result<()> {
-    match verdict {
-        Verdict::Accepted => print_all(rt, out)?,
-        Verdict::Refused(refusal) => {
-            print_text(rt, b" ")?;
-            print_refusal(rt, refusal)?;
-        }
+    match answer {
+        Ok(()) => print_all(rt, out)?,
+        Err(refusal) => print!(rt; " {refusal}")?,
     }
-    print_text(rt, b"\n")
+    println!(rt)
 }
 
-fn on_word(
-    rt: &impl Print,
-    size: u32,
-    side: u32,
-    byte_id: u32,
-    thread_id: u32,
-    n: usize,
-) -> io::Result<()> {
-    show(rt, Selectors(size, side, byte_id, thread_id), &WORD, n)
+fn print_all(rt: &impl Print, numbers: &[i32]) -> io::Result<()> {
+    for number in numbers {
+        print!(rt; " {number}")?;
+    }
+    Ok(())
 }
 
-fn on_varied(
-    rt: &impl Print,
-    size: u32,
-    side: u32,
-    byte_id: u32,
-    thread_id: u32,
-    n: usize,
-) -> io::Result<()> {
-    show(rt, Selectors(size, side, byte_id, thread_id), &VARIED, n)
+fn show_all(rt: &impl Print, metadata: &[u32], calls: &[Call]) -> io::Result<()> {
+    for call in calls {
+        show(rt, metadata, *call)?;
+    }
+    Ok(())
 }
 
 fn figures(rt: &impl Print) -> io::Result<()> {
-    on_word(rt, 1, Side::B, 0, 0, 8)?;
-    on_word(rt, 1, Side::B, 1, 0, 8)?;
-    on_word(rt, 1, Side::B, 2, 0, 8)?;
-    on_word(rt, 1, Side::B, 3, 0, 8)?;
-    on_word(rt, 2, Side::B, 2, 0, 16)?;
-    on_word(rt, 2, Side::B, 1, 0, 16)
-}
-
-fn on_high_nan(
-    rt: &impl Print,
-    size: u32,
-    side: u32,
-    byte_id: u32,
-    thread_id: u32,
-    n: usize,
-) -> io::Result<()> {
-    show(rt, Selectors(size, side, byte_id, thread_id), &HIGH_NAN, n)
+    let calls = [
+        Call(1, Side::B, 0, 0, 8),
+        Call(1, Side::B, 1, 0, 8),
+        Call(1, Side::B, 2, 0, 8),
+        Call(1, Side::B, 3, 0, 8),
+        Call(2, Side::B, 2, 0, 16),
+        Call(2, Side::B, 1, 0, 16),
+    ];
+    show_all(rt, &WORD, &calls)
 }
 
 fn figures_of_255(rt: &impl Print) -> io::Result<()> {
-    on_high_nan(rt, 1, Side::B, 3, 0, 8)?;
-    on_high_nan(rt, 1, Side::B, 0, 0, 8)?;
-    on_high_nan(rt, 1, Side::B, 1, 0, 8)?;
-    on_high_nan(rt, 1, Side::B, 2, 0, 8)?;
-    on_high_nan(rt, 2, Side::A, 2, 1, 32)
+    let calls = [
+        Call(1, Side::B, 3, 0, 8),
+        Call(1, Side::B, 0, 0, 8),
+        Call(1, Side::B, 1, 0, 8),
+        Call(1, Side::B, 2, 0, 8),
+        Call(2, Side::A, 2, 1, 32),
+    ];
+    show_all(rt, &HIGH_NAN, &calls)
 }
 
-// 255 in byte 2 of lane 1 only, and 254 in every other.
-fn on_one_nan(
-    rt: &impl Print,
-    size: u32,
-    side: u32,
-    byte_id: u32,
-    thread_id: u32,
-    n: usize,
-) -> io::Result<()> {
+// 255 in byte 2 of lane 1 only, and 254 in every other. The lane and the byte are chosen, then the byte is not, then the lane is not.
+fn one_nan(rt: &impl Print) -> io::Result<()> {
     let mut metadata: [u32; 32] = [0xFEFEFEFE; 32];
     metadata[1] = 0xFEFFFEFE;
-    show(rt, Selectors(size, side, byte_id, thread_id), &metadata, n)
+    let calls = [
+        Call(4, Side::A, 0, 0, 64),
+        Call(2, Side::A, 2, 0, 32),
+        Call(1, Side::A, 2, 0, 16),
+        Call(4, Side::B, 0, 1, 32),
+        Call(1, Side::A, 0, 0, 16),
+        Call(2, Side::B, 0, 1, 16),
+        Call(1, Side::A, 2, 1, 16),
+        Call(4, Side::B, 0, 0, 32),
+    ];
+    show_all(rt, &metadata, &calls)
 }
 
-// The lane and the byte are chosen, then the byte is not, then the lane is not.
-fn one_nan(rt: &impl Print) -> io::Result<()> {
-    on_one_nan(rt, 4, Side::A, 0, 0, 64)?;
-    on_one_nan(rt, 2, Side::A, 2, 0, 32)?;
-    on_one_nan(rt, 1, Side::A, 2, 0, 16)?;
-    on_one_nan(rt, 4, Side::B, 0, 1, 32)?;
-    on_one_nan(rt, 1, Side::A, 0, 0, 16)?;
-    on_one_nan(rt, 2, Side::B, 0, 1, 16)?;
-    on_one_nan(rt, 1, Side::A, 2, 1, 16)?;
-    on_one_nan(rt, 4, Side::B, 0, 0, 32)
-}
-
-fn side_a(rt: &impl Print) -> io::Result<()> {
-    on_varied(rt, 1, Side::A, 0, 0, 16)?;
-    on_varied(rt, 1, Side::A, 3, 1, 16)?;
-    on_varied(rt, 2, Side::A, 0, 1, 32)?;
-    on_varied(rt, 2, Side::A, 2, 0, 32)?;
-    on_varied(rt, 4, Side::A, 0, 0, 64)?;
-    on_varied(rt, 4, Side::A, 0, 1, 64)
-}
-
-fn side_b(rt: &impl Print) -> io::Result<()> {
-    on_varied(rt, 1, Side::B, 1, 0, 8)?;
-    on_varied(rt, 1, Side::B, 2, 1, 8)?;
-    on_varied(rt, 2, Side::B, 0, 2, 16)?;
-    on_varied(rt, 2, Side::B, 2, 3, 16)?;
-    on_varied(rt, 4, Side::B, 0, 3, 32)
+fn whole_outputs(rt: &impl Print) -> io::Result<()> {
+    let calls = [
+        Call(1, Side::A, 0, 0, 16),
+        Call(1, Side::A, 3, 1, 16),
+        Call(2, Side::A, 0, 1, 32),
+        Call(2, Side::A, 2, 0, 32),
+        Call(4, Side::A, 0, 0, 64),
+        Call(4, Side::A, 0, 1, 64),
+        Call(1, Side::B, 1, 0, 8),
+        Call(1, Side::B, 2, 1, 8),
+        Call(2, Side::B, 0, 2, 16),
+        Call(2, Side::B, 2, 3, 16),
+        Call(4, Side::B, 0, 3, 32),
+    ];
+    show_all(rt, &VARIED, &calls)
 }
 
 fn refusals(rt: &impl Print) -> io::Result<()> {
-    on_word(rt, 0, Side::A, 0, 0, 16)?;
-    on_word(rt, 3, Side::A, 0, 0, 16)?;
-    on_word(rt, 1, 2, 0, 0, 16)?;
-    on_word(rt, 1, Side::A, 4, 0, 16)?;
-    on_word(rt, 2, Side::B, 3, 0, 16)?;
-    on_word(rt, 4, Side::B, 2, 0, 16)?;
-    on_word(rt, 1, Side::A, 0, 2, 16)?;
-    on_word(rt, 1, Side::B, 0, 4, 16)?;
-    show(rt, Selectors(1, Side::A, 0, 0), &WORD[..31], 16)?;
-    on_word(rt, 1, Side::B, 0, 0, 16)
-}
-
-// On no metadata.
-fn on_none(
-    rt: &impl Print,
-    size: u32,
-    side: u32,
-    byte_id: u32,
-    thread_id: u32,
-    n: usize,
-) -> io::Result<()> {
-    show(rt, Selectors(size, side, byte_id, thread_id), &WORD[..0], n)
+    let calls = [
+        Call(0, Side::A, 0, 0, 16),
+        Call(3, Side::A, 0, 0, 16),
+        Call(1, 2, 0, 0, 16),
+        Call(1, Side::A, 4, 0, 16),
+        Call(2, Side::B, 3, 0, 16),
+        Call(4, Side::B, 2, 0, 16),
+        Call(1, Side::A, 0, 2, 16),
+        Call(1, Side::B, 0, 4, 16),
+    ];
+    show_all(rt, &WORD, &calls)?;
+    show(rt, &WORD[..31], Call(1, Side::A, 0, 0, 16))?;
+    show(rt, &WORD, Call(1, Side::B, 0, 0, 16))
 }
 
 // Each call has every refusal from its first on.
 fn several(rt: &impl Print) -> io::Result<()> {
-    on_none(rt, 4294967295, 4294967295, 4294967295, 4294967295, 5)?;
-    on_none(rt, 1, 2, 4, 4, 5)?;
-    on_none(rt, 1, Side::A, 4, 4, 5)?;
-    on_none(rt, 1, Side::A, 3, 4, 5)?;
-    on_none(rt, 1, Side::A, 3, 1, 5)?;
-    on_word(rt, 1, Side::A, 3, 1, 5)?;
-    show(rt, Selectors(1, Side::A, 3, 1), &HIGH_NAN[..31], 5)?;
-    on_high_nan(rt, 1, Side::A, 3, 1, 5)
+    let calls = [
+        Call(4294967295, 4294967295, 4294967295, 4294967295, 5),
+        Call(1, 2, 4, 4, 5),
+        Call(1, Side::A, 4, 4, 5),
+        Call(1, Side::A, 3, 4, 5),
+        Call(1, Side::A, 3, 1, 5),
+    ];
+    show_all(rt, &[], &calls)?;
+    let last = Call(1, Side::A, 3, 1, 5);
+    show(rt, &WORD, last)?;
+    show(rt, &HIGH_NAN[..31], last)?;
+    show(rt, &HIGH_NAN, last)
 }
 
 fn main(rt: HostRuntime) -> io::Result<()> {
-    print_text(&rt, b"metadata 807F0100 in every lane\n")?;
+    println!(rt; "metadata 807F0100 in every lane")?;
     figures(&rt)?;
-    print_text(&rt, b"metadata FF7F0100 in every lane\n")?;
+    println!(rt; "metadata FF7F0100 in every lane")?;
     figures_of_255(&rt)?;
-    print_text(
-        &rt,
-        b"metadata FEFFFEFE in lane 1, FEFEFEFE in the others\n",
-    )?;
+    println!(rt; "metadata FEFFFEFE in lane 1, FEFEFEFE in the others")?;
     one_nan(&rt)?;
-    print_text(&rt, b"metadata i times 08040201 in lane i\n")?;
-    side_a(&rt)?;
-    side_b(&rt)?;
-    print_text(&rt, b"one refusal applies\n")?;
+    println!(rt; "metadata i times 08040201 in lane i")?;
+    whole_outputs(&rt)?;
+    println!(rt; "one refusal applies")?;
     refusals(&rt)?;
-    print_text(&rt, b"several refusals apply\n")?;
+    println!(rt; "several refusals apply")?;
     several(&rt)
 }

@@ -1,10 +1,9 @@
--- Texts put one after another, and the digits of a number: the kit's fewest digits are the definition's. Assumes nothing.
-use mathlib.Core.Path.{◌≡◌, refl, sym, ap, ap₂, subst, ◌∙◌}
+-- Texts pushed one after another, and the digits of a number. Assumes nothing.
+use mathlib.Core.Path.{◌≡◌, refl, sym, ap, subst, ◌∙◌}
 use mathlib.Core.Bool.{Bool, true, false}
 use mathlib.Core.List.{List, [], ◌∷◌, ◌++◌, append_assoc}
 use Prim.Native.Nat.{ℕ, zero, suc, ◌+◌, ◌-◌, ◌*◌, ◌/◌, ◌%◌, ◌^◌, ◌<◌, ◌≤◌}
-use lib.Pow.{pow-add}
-use native.Mathlib.Nat.{mul-le-mul_left, not-suc-le-zero, le_of_suc-le-suc, mod-lt, mod-eq_of_lt, div-lt_iff_lt-mul, le-div_iff_mul-le}
+use native.Mathlib.Nat.{le_of_suc-le-suc, div-lt_iff_lt-mul}
 use native.Mathlib.Omega.{arith}
 use borrow.Author.Tests.{lt-ltb, le-ltb}
 use lib.ListN.{length, take, drop, length-append, length-drop}
@@ -13,7 +12,6 @@ use Rattle.std.proofs.Common.{if◌then◌else◌}
 use Rattle.std.proofs.lemmas.Slice.{take-put_mid, drop-put_mid}
 use borrow.Rule.Slice.PartMut.{put_mid, same_len_mid}
 use Rattle.laws.specs.Choice.{◌<?◌}
-use Rattle.io.specs.Digits.{hex_digit_ascii, last_digits, IsDigitCount}
 use Rattle.text.specs.Text.{digit, decimal_in, decimal, refused_line, Put, Pushed}
 use Rattle.text.specs.declared.Text.{Text}
 
@@ -53,53 +51,37 @@ pushed_put p first none last long = rw (← first, ← none, ← last, long) p.p
 pub pushed_ends : {t : List ℕ} {a b : Text} → Pushed t a b → (n : ℕ) → length t ≤ n → b.len ≤ a.len + n
 pushed_ends p n h = omega (arith, p.put)
 
--- a digit is the kit's
-digit_is : (d : ℕ) → d < 10 → hex_digit_ascii d ≡ digit d
-digit_is d h = rw (lt-ltb d 10 h) refl
-
-pow_pos : (k : ℕ) → 1 ≤ 10 ^ k
-pow_pos zero = omega arith
-pow_pos (suc k) = omega (arith, pow_pos k)
-
-ten_le : (k : ℕ) → 10 ≤ 10 ^ suc k
-ten_le k = omega (arith, pow_pos k)
-
--- a 64-bit number has at most 20 digits
-pub few_digits : (k n : ℕ) → IsDigitCount 10 1 n k → n < 2 ^ 64 → k ≤ 20
-few_digits k n f h = omega (arith, more)
-  where
-    more : ¬ (20 < k)
-    more l =
-        let low : 10 ^ (20 + (k - 21)) ≤ n = subst (λ (m : ℕ). 10 ^ m ≤ n) (omega arith) (f.2 (omega arith)) in
-        omega (arith, low, pow-add 10 20 (k - 21), mul-le-mul_left (10 ^ 20) (pow_pos (k - 21)), h)
-
--- the fewest digits of a number are its decimal
-pub fewest_is : (k most n : ℕ) → IsDigitCount 10 1 n k → k ≤ most → last_digits 10 k n ≡ decimal_in most n
-unfolding decimal_in
-fewest_is zero most n f h = absurd (not-suc-le-zero f.0)
-fewest_is (suc k) zero n f h = absurd (not-suc-le-zero h)
-fewest_is (suc zero) (suc most) n f h =
-    let l : n < 10 = f.1 in
-    simp (lt-ltb n 10 l) (ap (λ (d : ℕ). hex_digit_ascii d ∷ []) (mod-eq_of_lt l) ∙ ap (λ (d : ℕ). d ∷ []) (digit_is n l))
-fewest_is (suc (suc k)) (suc most) n f h =
-    let low : 10 ^ suc k ≤ n = subst (λ (m : ℕ). 10 ^ m ≤ n) (omega arith) (f.2 (omega arith)) in
-    let much : 10 ≤ n = omega (arith, low, ten_le k) in
-    let high : n < 10 ^ suc k * 10 = omega (arith, f.1) in
-    let deep : 10 ^ k * 10 ≤ n = omega (arith, low) in
-    let ten : 0 < 10 = omega arith in
-    let less : IsDigitCount 10 1 (n / 10) (suc k) = (omega arith, (div-lt_iff_lt-mul ten).1 high, λ m. subst (λ (j : ℕ). 10 ^ j ≤ n / 10) (omega arith) ((le-div_iff_mul-le ten).1 deep)) in
-    simp (le-ltb n 10 much) (ap₂ (λ (xs : List ℕ) (d : ℕ). xs ++ (d ∷ [])) (fewest_is (suc k) most (n / 10) less (le_of_suc-le-suc h)) (digit_is (n % 10) (mod-lt n (omega arith))))
-
--- of one digit, and of two
+-- of one digit
 pub one_digit : (most n : ℕ) → n < 10 → decimal_in (suc most) n ≡ digit n ∷ []
 unfolding decimal_in
 one_digit most n h = rw (lt-ltb n 10 h) refl
 
-pub two_digits : (most n : ℕ) → 10 ≤ n → n < 100 → decimal_in (suc (suc most)) n ≡ digit (n / 10) ∷ digit (n % 10) ∷ []
+-- more than enough digits change nothing,
+more_digits : (k most n : ℕ) → n < 10 ^ suc k → k ≤ most → decimal_in (suc k) n ≡ decimal_in (suc most) n
 unfolding decimal_in
-two_digits most n l h = simp (le-ltb n 10 l) (ap (λ (xs : List ℕ). xs ++ (digit (n % 10) ∷ [])) (one_digit most (n / 10) (omega arith)))
+more_digits zero most n h l = rw (lt-ltb n 10 h) refl
+more_digits (suc k) zero n h l = absurd (omega (arith, l))
+more_digits (suc k) (suc most) n h l =
+    let high : n < 10 ^ suc k * 10 = omega (arith, h) in
+    let ten : 0 < 10 = omega arith in
+    ap (λ (xs : List ℕ). if n <? 10 then digit n ∷ [] else xs ++ (digit (n % 10) ∷ [])) (more_digits k most (n / 10) ((div-lt_iff_lt-mul ten).1 high) (le_of_suc-le-suc l))
 
--- and a number below a power of ten has no more digits
+-- so that the last digit stands behind those of a tenth
+pub last_digit : (n : ℕ) → 10 ≤ n → n < 2 ^ 64 → decimal n ≡ decimal (n / 10) ++ (digit (n % 10) ∷ [])
+unfolding decimal_in
+last_digit n l h = rw (le-ltb n 10 l) (ap (λ (xs : List ℕ). xs ++ (digit (n % 10) ∷ [])) (more_digits 18 19 (n / 10) (omega (arith, h)) (omega arith)))
+
+pub two_digits : (n : ℕ) → 10 ≤ n → n < 100 → decimal n ≡ digit (n / 10) ∷ digit (n % 10) ∷ []
+two_digits n l h = last_digit n l (omega arith) ∙ ap (λ (xs : List ℕ). xs ++ (digit (n % 10) ∷ [])) (one_digit 19 (n / 10) (omega arith))
+
+-- how many there are,
+pub one_long : (n : ℕ) → n < 10 → length (decimal n) ≡ 1
+one_long n h = ap length (one_digit 19 n h)
+
+pub more_long : (n : ℕ) → 10 ≤ n → n < 2 ^ 64 → length (decimal n) ≡ length (decimal (n / 10)) + 1
+more_long n l h = ap length (last_digit n l h) ∙ length-append (decimal (n / 10)) _
+
+-- no more than k where the number is below 10 to the k
 pub decimal_length : (k most n : ℕ) → n < 10 ^ suc k → length (decimal_in most n) ≤ suc k
 unfolding decimal_in
 decimal_length k zero n h = omega arith

@@ -43,7 +43,8 @@ impl<'a> Text<'a> {
         self.len = end;
     }
 
-    // Most numbers have one digit or two, and go a short way.
+    // Most numbers have at most three digits, and go a short way.
+    #[tactic(auto, using(crate::proofs::Laws::one_long, crate::proofs::Laws::more_long))]
     pub fn push_decimal(&mut self, n: u64)
         requires { HasRoom (length (decimal n)) self.old }
         ensures { Pushed (decimal n) self.old self.new }
@@ -54,16 +55,32 @@ impl<'a> Text<'a> {
         if n < 100 {
             return self.push_two_digits(n);
         }
-        let mut digits = [0u8; 20];
-        let count = io::decimal(n, &mut digits);
-        self.push_text(&digits[..count]);
+        if n < 1000 {
+            self.push_two_digits(n / 10);
+            return self.push(b'0' + (n % 10) as u8);
+        }
+        self.push_digits(n);
     }
 
+    #[tactic(auto, using(crate::proofs::Laws::one_long, crate::proofs::Laws::more_long))]
     fn push_two_digits(&mut self, n: u64)
         requires { (10 ≤ n) × (n < 100) × HasRoom (length (decimal n)) self.old }
         ensures { Pushed (decimal n) self.old self.new }
     {
         self.push(b'0' + (n / 10) as u8);
+        self.push(b'0' + (n % 10) as u8);
+    }
+
+    // The digits of a tenth, and the last one.
+    #[tactic(auto, using(crate::proofs::Laws::one_long, crate::proofs::Laws::more_long))]
+    fn push_digits(&mut self, n: u64)
+        requires { HasRoom (length (decimal n)) self.old }
+        ensures { Pushed (decimal n) self.old self.new }
+    {
+        if n < 10 {
+            return self.push(b'0' + n as u8);
+        }
+        self.push_digits(n / 10);
         self.push(b'0' + (n % 10) as u8);
     }
 

@@ -13,4 +13,4 @@ narrow-requires c =
     let ws = c.args.words.now in
     let f = layout_at template_kind template_role in
     let e = c.fill.ensures ∙ ap (λ (f : Layout). unpacked f ws) c.of-f.ensures.is in
-    (subst (Fitting 8) (sym e) (unpacked_fits f template_laid ws), c.if-record-ne-BYTES.false ∙ sym (ap length e ∙ unpacked_length f template_laid ws))
+    (subst (Fitting 8) (sym e) (unpacked_fits f template_laid ws), c.if-record-ne-BYTES.false ∙ sym (ap length e ∙ unpacked_length f ws))
