@@ -1,5 +1,5 @@
 -- Every entry that was passed fits. Assumes nothing.
-use Rattle.std.proofs.Common.{ℕ, ◌-◌, ◌^◌, ◌<◌, ◌≤◌, length, get_or}
+use Rattle.std.proofs.Common.{ℕ, ◌^◌, ◌<◌, ◌≤◌, length, get_or}
 use Rattle.pack.proofs.first_wide.Given as goal
 
 abbrev pub invariant-loop-i : goal.invariant-loop-i

@@ -1,5 +1,5 @@
 -- The loop copies the entries from the front. Assumes nothing.
-use Rattle.std.proofs.Common.{ℕ, ◌≡◌, ◌-◌, ◌≤◌, length, get_or}
+use Rattle.std.proofs.Common.{ℕ, ◌≡◌, ◌≤◌, length, get_or}
 use Rattle.laws.specs.Lists.{fills}
 use Rattle.template.proofs.narrow.Given as goal
 

@@ -1,5 +1,5 @@
 -- The loop copies the bytes from the front. Assumes nothing.
-use Rattle.std.proofs.Common.{ℕ, ◌≡◌, ◌-◌, ◌≤◌, length, get_or}
+use Rattle.std.proofs.Common.{ℕ, ◌≡◌, ◌≤◌, length, get_or}
 use Rattle.laws.specs.Lists.{fills}
 use Rattle.template.proofs.widen.Given as goal
 
