@@ -56,18 +56,6 @@ impl Lengths {
     }
 }
 
-// Every word of one buffer into another of its length.
-pub fn copy(from: &[u32], to: &mut [u32])
-    requires { length from.now ≡ length to.old }
-    ensures { to.new ≡ from.now }
-{
-    let mut i = 0;
-    while i < from.len() {
-        to[i] = from[i];
-        i += 1;
-    }
-}
-
 // Field j of a word, from its lowest bit up.
 pub fn field_of(word: u64, bits: usize, j: usize) -> u64
     requires { (bits < 32) × (bits + bits * j ≤ 32) × (j < 32) }

@@ -1,8 +1,8 @@
 -- What the workers answer, and what they ask for. Assumes nothing.
-use Rattle.std.specs.Prelude.{ℕ, zero, suc, ◌*◌, ◌/◌, ◌<◌, ◌≤◌, ◌≡◌, Bool, ◌&&◌, List, [], ◌∷◌, get_or, if◌then◌else◌}
+use Rattle.std.specs.Prelude.{ℕ, zero, suc, ◌≡◌, Bool, ◌&&◌, List, [], ◌∷◌, get_or, if◌then◌else◌}
 use Rattle.laws.specs.Choice.{◌=?◌, NoneBelow}
 use Rattle.answers.specs.Calls.{Call}
-use Rattle.kinds.specs.Kinds.{kinds, rank, line, table, role_a, role_b, role_c, word_bits, entry_of, role_of}
+use Rattle.kinds.specs.Kinds.{kinds, rank, line, table, role_a, role_b, role_c, entry_of, role_of}
 use Rattle.kinds.specs.Rule.{Layout, side_of, layout_of}
 use Rattle.kinds.specs.Refusals.{layout_refusals}
 use Rattle.kinds.specs.declared.Entry.{Entry}

@@ -56,6 +56,7 @@ fn read_some<R: Read>(from: &mut R, input: &mut [u8]) -> Came
 {
     let mut bytes = 0;
     let mut whole = input.len();
+    // By hand, since the library's `read_exact` says nothing of what came before a failure.
     while bytes < whole {
         match stream::read_behind(from, &mut input[..whole], bytes) {
             Ok(held) if held == bytes => break,

@@ -16,14 +16,12 @@ fn first_wide(matrix: &[u64], bits: usize) -> usize
     ensures { result ≡ first_of (length matrix.now) (too_wide bits matrix.now) }
 {
     let most: u64 = 18446744073709551615 >> (64 - bits);
-    let mut i = 0;
-    while i < matrix.len() {
+    for i in 0..matrix.len() {
         if most < matrix[i] {
             return i;
         }
-        i += 1;
     }
-    i
+    matrix.len()
 }
 
 fn pack_in(f: &Layout, matrix: &[u64], words: &mut [u32]) -> Result<(), Refusal>

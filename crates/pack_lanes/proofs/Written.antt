@@ -1,18 +1,18 @@
 -- The words that hold a lane's stretch are those of the packed buffer, and are stored where they stand. Assumes nothing.
+use borrow.Rule.Slice.PartMut.{mid_of, post_of, put_mid, mid_len, put_same}
 use mathlib.Core.Path.{◌≡◌, refl, sym, ap, ap₂, subst, ◌∙◌}
 use mathlib.Core.List.{List}
 use mathlib.Core.Logic.{⊎_elim}
-use Prim.Native.Nat.{ℕ, zero, suc, ◌+◌, ◌*◌, ◌/◌, ◌%◌, ◌^◌, ◌<◌, ◌≤◌}
-use native.Mathlib.Nat.{add_comm, add-mul, mul_assoc, mul_comm, mul-one, mul-suc, mul-zero}
+use Prim.Native.Nat.{ℕ, ◌+◌, ◌*◌, ◌-◌, ◌/◌, ◌%◌, ◌^◌, ◌<◌, ◌≤◌}
+use native.Mathlib.Nat.{mul-one}
 use native.Mathlib.Omega.{arith}
 use lib.Arith.{digits_lt}
-use lib.Pow.{pow-add}
 use lib.ListN.{length, get_or}
 use Rattle.laws.specs.Fields.{field, joined}
 use Rattle.laws.specs.Toward.{Brings, Below, At, stores}
 use Rattle.laws.proofs.Fields.{field_joined, joined_ext}
 use Rattle.laws.proofs.Lists.{block_le}
-use Rattle.laws.proofs.Toward.{brings_on, brings_stores, same_or_not}
+use Rattle.laws.proofs.Toward.{brings_on, brings_stores, lent_stores, same_or_not}
 use Rattle.kinds.specs.Kinds.{lanes}
 use Rattle.kinds.specs.Places.{word_within}
 use Rattle.kinds.specs.Rule.{Layout, elements_of, rows_of, columns_of}
@@ -24,15 +24,6 @@ use Rattle.buffers.proofs.Places.{place_in_lem, stretch_fills, wide_is}
 use Rattle.buffers.proofs.Round.{word_number, packed_word}
 use Rattle.buffers.proofs.Stretches.{narrow_size, wide_size, one_word, two_words, starts, narrow_word, wide_element, stretches_elements, stretch_element, stretch_word, start_within, holding_pos, lane_small, narrow_at}
 use Rattle.pack_lanes.specs.Numbers.{Numbers}
-
--- a number joined of fields is the rest of them shifted up, and the first below them
-pub joined_first : (b n : ℕ) (f : ℕ → ℕ) → joined b (suc n) f ≡ joined b n (λ i. f (suc i)) * 2 ^ b + f 0
-unfolding joined
-joined_first b zero f = rw mul-zero (omega arith)
-joined_first b (suc n) f =
-    let up : 2 ^ (b * suc n) ≡ 2 ^ (b * n) * 2 ^ b = ap (λ (e : ℕ). 2 ^ e) (mul-suc b n ∙ add_comm (b * n) b) ∙ pow-add 2 b (b * n) ∙ mul_comm (2 ^ b) (2 ^ (b * n)) in
-    ap₂ (λ (p r : ℕ). f (suc n) * p + r) up (joined_first b n f)
-    ∙ omega (arith, mul_assoc (f (suc n)) (2 ^ (b * n)) (2 ^ b), add-mul (f (suc n) * 2 ^ (b * n)) (joined b n (λ i. f (suc i))) (2 ^ b))
 
 -- a number below 2 ^ 32 is its one field
 one_field : (j v : ℕ) → j ≡ 0 → v < 2 ^ 32 → field 32 j v ≡ v
@@ -116,24 +107,46 @@ module _ (f : Layout) (ok : Laid f) (m : List ℕ) (fitting : Fitting f.bits m) 
         rw (one_word f ne) (λ j hj. one_field j (get_or m base 0) (omega arith) (subst (λ (b : ℕ). get_or m base 0 < 2 ^ b) b fits) ∙ whole_word b ∙ ap (word_at f m lane) (omega arith)))
         (same_or_not f.bits 64)
 
--- the fields of that number, stored where they belong
+-- the fields of that number, stored where they belong: in the part of the buffer that is lent to the lane's writer, put back
 module _ (f : Layout) (ok : Laid f) (m ws : List ℕ) (size : length ws ≡ lanes * f.words) (r lane k : ℕ) (hr : r < stretches_of f) (hl : lane < lanes) (ek : k ≡ word_within f.bits (r * size_of f)) where
   abbrev n : ℕ
   n = holding_of f
 
-  abbrev at : ℕ
-  at = lane * f.words + k
+  abbrev begin : ℕ
+  begin = lane * f.words
 
-  behind : (j : ℕ) → lane * f.words + (r * n + j) ≡ at + j * 1
+  abbrev at : ℕ
+  at = begin + k
+
+  behind : (j : ℕ) → begin + (r * n + j) ≡ at + j * 1
   behind j = omega (arith, ek ∙ starts f ok r)
 
-  pub part_in : (at < 256) × (at + n ≤ length ws)
-  part_in = omega (arith, lane_small f ok lane hl, ok.words_le, block_le lane 32 f.words hl, size, subst (λ (k : ℕ). k + n ≤ f.words) (sym ek) (start_within f ok r hr), holding_pos f ok)
+  last_in : k + n ≤ f.words
+  last_in = subst (λ (k : ℕ). k + n ≤ f.words) (sym ek) (start_within f ok r hr)
 
-  pub lane_written : (v : ℕ) → Numbers f m r lane v → Brings (packed f m) (WordsOfLane f n r lane) ws (stores at 1 n (λ j. field 32 j v) ws)
-  lane_written v number =
-      brings_on (packed f m) (Below n (λ j. At (at + j * 1))) (WordsOfLane f n r lane) ws (stores at 1 n (λ j. field 32 j v) ws) (λ x p. (p.0, p.1, p.2 ∙ behind p.0))
-      (brings_stores (packed f m) at 1 n (λ j. field 32 j v) ws
-      (λ j l.
-      let w = stretch_word f ok n r j refl hr l in
-      (omega (arith, behind j, size, digits_lt {q = lane} {m = 32} hl w), number j l ∙ sym (packed_word f ok m lane (r * n + j) hl w) ∙ ap (λ (x : ℕ). get_or (packed f m) x 0) (behind j))))
+  pub lent_in : (begin ≤ 248) × (begin + f.words ≤ 256) × (begin + f.words ≤ length ws)
+  lent_in = omega (arith, lane_small f ok lane hl, ok.words_le, block_le lane 32 f.words hl, size)
+
+  lent_length : length (mid_of begin (begin + f.words - begin) ws) ≡ f.words
+  lent_length = mid_len begin (begin + f.words) ws lent_in.2 ∙ omega arith
+
+  pub word_in : (k < 256) × (k + n ≤ length (mid_of begin (begin + f.words - begin) ws))
+  word_in = omega (arith, lent_length, last_in, ok.words_le, holding_pos f ok)
+
+  module _ (v : ℕ) where
+    abbrev word : ℕ → ℕ
+    word j = field 32 j v
+
+    put_back : put_mid begin (begin + f.words - begin) ws (stores k 1 n word (mid_of begin (begin + f.words - begin) ws)) ≡ stores at 1 n word ws
+    put_back =
+        lent_stores begin ws (mid_of begin (begin + f.words - begin) ws) (post_of begin (begin + f.words - begin) ws) k n word (omega (arith, lent_in)) (omega (arith, lent_length, last_in))
+        ∙ ap (stores at 1 n word) (put_same begin (begin + f.words - begin) ws)
+
+    pub lane_written : (ws' : List ℕ) → ws' ≡ put_mid begin (begin + f.words - begin) ws (stores k 1 n word (mid_of begin (begin + f.words - begin) ws)) → Numbers f m r lane v → Brings (packed f m) (WordsOfLane f n r lane) ws ws'
+    lane_written ws' e number =
+        subst (λ (xs : List ℕ). Brings (packed f m) (WordsOfLane f n r lane) ws xs) (sym (e ∙ put_back))
+        (brings_on (packed f m) (Below n (λ j. At (at + j * 1))) (WordsOfLane f n r lane) ws (stores at 1 n word ws) (λ x p. (p.0, p.1, p.2 ∙ behind p.0))
+        (brings_stores (packed f m) at 1 n word ws
+        (λ j l.
+        let w = stretch_word f ok n r j refl hr l in
+        (omega (arith, behind j, size, digits_lt {q = lane} {m = 32} hl w), number j l ∙ sym (packed_word f ok m lane (r * n + j) hl w) ∙ ap (λ (x : ℕ). get_or (packed f m) x 0) (behind j)))))

@@ -12,7 +12,7 @@ ghost use Rattle.buffers.specs.Stretches.{holding, holding_of, stretches_of, Wor
 
 use buffers::Stretch;
 use buffers::walk::{self, Filling};
-use kinds::{Lane, Layout};
+use kinds::{Element, Lane, Layout, Spot};
 
 // The number whose fields are so many entries from base on, step apart.
 fn gather(matrix: &[u64], bits: usize, base: usize, step: usize, count: usize) -> u64
@@ -21,9 +21,10 @@ fn gather(matrix: &[u64], bits: usize, base: usize, step: usize, count: usize) -
     ensures is { result ≡ joined bits count (λ j. get_or matrix.now (base + j * step) 0) }
     ensures small { result < 2 ^ 32 }
 {
-    let mut sum = 0;
-    for j in (0..count).rev() {
-        sum = (sum << bits) + matrix[base + j * step];
+    let mut sum: u64 = 0;
+    for j in 0..count {
+        let bit = Spot::of(bits, Element(j as u32)).bit;
+        sum = (matrix[base + j * step] << bit.0) + sum;
     }
     sum
 }
@@ -83,10 +84,14 @@ impl Filling for Packing<'_> {
         self.layout
     }
 
+    // The lane's own part of the buffer is lent.
     fn fill_lane(&self, words: &mut [u32], stretch: Stretch, lane: Lane) {
         let f = self.layout;
-        let k = lane.0 as usize * f.words + stretch.word(f);
-        put(words, self.number(stretch, lane), f.bits, k);
+        let number = self.number(stretch, lane);
+        let k = stretch.word(f);
+        let at = lane.0 as usize * f.words;
+        let end = at + f.words;
+        put(&mut words[at..end], number, f.bits, k);
     }
 }
 

@@ -11,7 +11,7 @@ use lib.ListN.{length, get_or, take, drop, length-append, length-drop}
 use Rattle.laws.specs.Choice.{◌=?◌}
 use Rattle.laws.specs.Lists.{tab}
 use Rattle.laws.proofs.Lists.{length_tab, get_or_tab}
-use Rattle.kinds.specs.Kinds.{entry_of, lanes, words, role_c, one_bit_element, int4_element, one_bit, Arithmetic}
+use Rattle.kinds.specs.Kinds.{lanes, words, role_c, one_bit_element, int4_element, one_bit, Arithmetic}
 use Rattle.answers.specs.Refusals.{given}
 use Rattle.answers.specs.Right.{Denies, Passes}
 use Rattle.answers.specs.Tests.{Says, holds}

@@ -62,10 +62,8 @@ fn widen(record: &[u8], matrix: &mut [u64])
     requires { length matrix.old ≡ length «record».now }
     ensures { matrix.new ≡ «record».now }
 {
-    let mut x = 0;
-    while x < record.len() {
+    for x in 0..record.len() {
         matrix[x] = wide(record[x]);
-        x += 1;
     }
 }
 
@@ -74,9 +72,7 @@ fn narrow(matrix: &[u64], record: &mut [u8])
     requires { Fitting 8 matrix.now × (length «record».old ≡ length matrix.now) }
     ensures { «record».new ≡ matrix.now }
 {
-    let mut x = 0;
-    while x < matrix.len() {
+    for x in 0..matrix.len() {
         record[x] = matrix[x] as u8;
-        x += 1;
     }
 }

@@ -27,10 +27,8 @@ fn scatter(matrix: &mut [u64], word: u64, bits: usize, side: usize, base: usize,
     requires by_index { (j : ℕ) → j < side → base + j * step < length matrix.old }
     ensures { matrix.new ≡ stores base step side (λ j. field bits j word) matrix.old }
 {
-    let mut rest = word;
     for j in 0..side {
-        matrix[base + j * step] = rest % (1 << bits);
-        rest >>= bits;
+        matrix[base + j * step] = buffers::field_of(word, bits, j);
     }
 }
 

@@ -1,5 +1,5 @@
 -- A shift is a division by a power of two, and 1 << b is 2 ^ b; the field starts below bit 32. Assumes nothing.
-use Rattle.std.proofs.Common.{ℕ, ◌≡◌, ◌∙◌, ap, ◌*◌, ◌/◌, ◌%◌, ◌^◌, ◌<◌, arith}
+use Rattle.std.proofs.Common.{ℕ, ◌∙◌, ap, ◌/◌, ◌%◌, ◌^◌, arith}
 use Rattle.laws.specs.Fields.{field}
 use Rattle.kinds.proofs.Spots.{bit_first}
 use Rattle.buffers.proofs.Elements.{one_shl}

@@ -1,7 +1,7 @@
 -- The largest number of b bits is all ones, shifted: what is above it does not fit. Assumes nothing.
 use lib.Pow.{pow_pos, ones_split, ones_lt, high}
 use borrow.Author.Count.{below_more}
-use Rattle.std.proofs.Common.{ℕ, ◌≡◌, ap, ◌∙◌, ◌+◌, ◌-◌, ◌/◌, ◌^◌, ◌≤◌, length, arith}
+use Rattle.std.proofs.Common.{ℕ, ◌≡◌, refl, ap, ◌∙◌, ◌+◌, ◌-◌, ◌/◌, ◌^◌, ◌≤◌, length, arith}
 use Rattle.std.proofs.Math.Nat.{not-le_of_lt}
 use Rattle.answers.proofs.Words.{first_here, first_nowhere}
 use Rattle.pack.specs.PackCall.{too_wide}
@@ -17,7 +17,7 @@ ones bits l =
 pub returns-then-most-matrix : goal.returns-then-most-matrix
 returns-then-most-matrix c =
     let a = c.args in
-    first_here (length a.matrix.now) (too_wide a.bits a.matrix.now) c.loop-i.i c.loop-i-test.true
+    first_here (length a.matrix.now) (too_wide a.bits a.matrix.now) c.loop-i.i (omega arith)
     (λ j l. not-le_of_lt (c.loop-i.invariant.1 j l)) (omega (arith, ones a.bits c.requires.1, c.if-most-matrix.true))
 
 pub loop-i-preserved : goal.loop-i-preserved
@@ -27,5 +27,4 @@ loop-i-preserved c =
 pub returns : goal.returns
 returns c =
     let a = c.args in
-    let e : c.loop-i.i ≡ length a.matrix.now = omega arith in
-    first_nowhere (length a.matrix.now) (too_wide a.bits a.matrix.now) c.loop-i.i e (λ j l. not-le_of_lt (c.loop-i.invariant.1 j l))
+    first_nowhere (length a.matrix.now) (too_wide a.bits a.matrix.now) (length a.matrix.now) refl (λ j l. not-le_of_lt (c.loop-i.invariant.1 j (omega (arith, l))))

@@ -1,10 +1,7 @@
 -- The loop copies the entries from the front. Assumes nothing.
-use Rattle.std.proofs.Common.{ℕ, ◌≡◌, ◌-◌, ◌≤◌, length, get_or}
+use Rattle.std.proofs.Common.{ℕ, ◌≡◌, ◌≤◌, length, get_or}
 use Rattle.laws.specs.Lists.{fills}
 use Rattle.template.proofs.narrow.Given as goal
 
 abbrev pub invariant-loop-x : goal.invariant-loop-x
 invariant-loop-x l = (l.x ≤ length l.matrix) × (l.«record» ≡ fills 0 l.x (λ (k : ℕ). get_or l.matrix k 0) l.initial.«record»)
-
-abbrev pub decreases-loop-x : goal.decreases-loop-x
-decreases-loop-x l = length l.matrix - l.x

@@ -1,5 +1,5 @@
 -- C's words, at most 128, stand at the front of the zeros. Assumes nothing.
-use Rattle.std.proofs.Common.{ℕ, List, ◌++◌, length, drop, ap, sym, arith, ◌≤◌, ◌≡◌}
+use Rattle.std.proofs.Common.{ℕ, List, ◌++◌, length, drop, ap, sym, arith, ◌≤◌}
 use lib.Seq.{length-take-le}
 use Rattle.laws.specs.Lists.{tab}
 use Rattle.run.specs.Runs.{run_of, zeros, no_marks, with_used, opened_run}

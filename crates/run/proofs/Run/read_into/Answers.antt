@@ -1,5 +1,5 @@
 -- D was accepted, and has the used sums. Assumes nothing.
-use Rattle.std.proofs.Common.{ℕ, List, length, take, ap, ◌∙◌, rules}
+use Rattle.std.proofs.Common.{ℕ, take, ap, ◌∙◌, rules}
 use Rattle.answers.proofs.Shows.{admitted}
 use Rattle.kinds.specs.declared.Kind.{Kind}
 use Rattle.buffers.specs.Buffers.{words_needed}
