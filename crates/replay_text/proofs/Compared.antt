@@ -67,7 +67,7 @@ module _ (k : ℕ) (l : Legal k 2) (log right : List ℕ) where
         ∙ round.unpack_pack f (sane k 2 l) right right_fits right_long
       where
         long : (ws : List ℕ) → length (unpacked_of k 2 ws) ≡ places
-        long ws = round.unpacked_length f (sane k 2 l) ws ∙ ap₂ (λ (m n : ℕ). m * n) (sym (rows_are k 2 l)) (sym (columns_are k 2 l))
+        long ws = round.unpacked_length f ws ∙ ap₂ (λ (m n : ℕ). m * n) (sym (rows_are k 2 l)) (sym (columns_are k 2 l))
 
         matrices : unpacked_of k 2 log ≡ unpacked_of k 2 right
         matrices =
