@@ -13,7 +13,7 @@ use Rattle.laws.specs.Toward.{Brings, Below, At, stores}
 use Rattle.laws.proofs.Fields.{field_joined, joined_ext}
 use Rattle.laws.proofs.Lists.{block_le}
 use Rattle.laws.proofs.Toward.{brings_on, brings_stores, lent_stores, same_or_not}
-use Rattle.kinds.specs.Kinds.{lanes}
+use Rattle.kinds.specs.Kinds.{word_bits, lanes}
 use Rattle.kinds.specs.Places.{word_within}
 use Rattle.kinds.specs.Rule.{Layout, elements_of, rows_of, columns_of}
 use Rattle.kinds.specs.Laid.{Laid}
@@ -23,7 +23,10 @@ use Rattle.buffers.proofs.Elements.{word_narrow, word_half}
 use Rattle.buffers.proofs.Places.{place_in_lem, stretch_fills, wide_is}
 use Rattle.buffers.proofs.Round.{word_number, packed_word}
 use Rattle.buffers.proofs.Stretches.{narrow_size, wide_size, one_word, two_words, starts, narrow_word, wide_element, stretches_elements, stretch_element, stretch_word, start_within, holding_pos, lane_small, narrow_at}
-use Rattle.pack_lanes.specs.Numbers.{Numbers}
+
+-- the fields of a number are the words of the packed buffer that hold a lane's stretch
+abbrev pub Numbers : Layout → (m : List ℕ) → (stretch lane n : ℕ) → Type 0
+Numbers f m r lane n = (j : ℕ) → j < holding_of f → field word_bits j n ≡ word_at f m lane (r * holding_of f + j)
 
 -- a number below 2 ^ 32 is its one field
 one_field : (j v : ℕ) → j ≡ 0 → v < 2 ^ 32 → field 32 j v ≡ v

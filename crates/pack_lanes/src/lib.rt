@@ -7,8 +7,7 @@ ghost use Rattle.laws.specs.Toward.{stores};
 ghost use Rattle.kinds.specs.Kinds.{lanes};
 ghost use Rattle.kinds.specs.Rule.{rows_of, columns_of};
 ghost use Rattle.buffers.specs.Buffers.{packed, Fitting};
-ghost use Rattle.pack_lanes.specs.Numbers.{Numbers};
-ghost use Rattle.buffers.specs.Stretches.{holding, holding_of, stretches_of, WordsOfLane};
+ghost use Rattle.buffers.specs.Stretches.{holding, holding_of, WordsOfLane};
 
 use buffers::Stretch;
 use buffers::walk::{self, Filling};
@@ -49,21 +48,6 @@ struct Packing<'a> {
     ghost fitting: { Fitting layout.now.bits matrix.now },
 }
 
-impl Packing<'_> {
-    // The entries of a lane's stretch as the number whose fields are its words: as many as a word holds, or one.
-    fn number(&self, stretch: Stretch, lane: Lane) -> u64
-        requires { (stretch.0 < stretches_of self.now.layout.now) × (lane.0 < lanes) }
-        ensures { Numbers self.now.layout.now self.now.matrix.now stretch.0 lane.0 result }
-    {
-        let f = self.layout;
-        let base = stretch.base(f, lane);
-        if f.bits < 32 {
-            return gather(self.matrix, f.bits, base, Stretch::step(f), f.side);
-        }
-        self.matrix[base]
-    }
-}
-
 impl Filling for Packing<'_> {
     ghost use Rattle.buffers.proofs.Round.{packed_length};
     ghost use Rattle.buffers.proofs.Stretches.{word_covered};
@@ -84,22 +68,33 @@ impl Filling for Packing<'_> {
         self.layout
     }
 
-    // The lane's own part of the buffer is lent.
+    // The entries of the stretch, or its one entry, as the number whose fields are its words, into the lane's own part of the buffer.
     fn fill_lane(&self, words: &mut [u32], stretch: Stretch, lane: Lane) {
         let f = self.layout;
-        let number = self.number(stretch, lane);
+        let base = stretch.base(f, lane);
         let k = stretch.word(f);
         let at = lane.0 as usize * f.words;
         let end = at + f.words;
-        put(&mut words[at..end], number, f.bits, k);
+        if f.bits < 32 {
+            let number = gather(self.matrix, f.bits, base, Stretch::step(f), f.side);
+            return put(&mut words[at..end], number, f.bits, k);
+        }
+        put(&mut words[at..end], self.matrix[base], f.bits, k);
     }
 }
 
-// Lane words filled from a matrix.
+// Lane words filled from a matrix. The layout is copied: behind a reference the compiler would read its numbers again after each store.
 pub fn fill_words(matrix: &[u64], words: &mut [u32], f: &Layout)
     requires { Fitting f.now.bits matrix.now × (length matrix.now ≡ rows_of f.now * columns_of f.now) ×
         (length words.old ≡ lanes * f.now.words) }
     ensures { words.new ≡ packed f.now matrix.now }
 {
-    walk::fill(&Packing { matrix, layout: f }, words);
+    let layout = *f;
+    walk::fill(
+        &Packing {
+            matrix,
+            layout: &layout,
+        },
+        words,
+    );
 }

@@ -87,10 +87,17 @@ impl Filling for Unpacking<'_> {
     }
 }
 
-// A matrix filled from lane words.
+// A matrix filled from lane words. The layout is copied: behind a reference the compiler would read its numbers again after each store.
 pub fn fill(words: &[u32], matrix: &mut [u64], f: &Layout)
     requires { (length words.now ≡ lanes * f.now.words) × (length matrix.old ≡ rows_of f.now * columns_of f.now) }
     ensures { matrix.new ≡ unpacked f.now words.now }
 {
-    walk::fill(&Unpacking { words, layout: f }, matrix);
+    let layout = *f;
+    walk::fill(
+        &Unpacking {
+            words,
+            layout: &layout,
+        },
+        matrix,
+    );
 }
