@@ -137,13 +137,15 @@ impl Run {
         ensures run { Replies (run_call self.now) (told_line result) }
         ensures own { IfOk result (λ s. (s.kind ≡ self.now.kind) × (s.signs ≡ self.now.signs) × (s.mode ≡ self.now.mode)) }
     {
+        // Copied here and not where they are looked at: words that are read right behind their copy are waited for.
+        let marks = self.marks;
         let Ok(s) = step::select(self.kind, self.signs, self.mode) else {
             return Err(Refusal::BadRun);
         };
         if Run::MAX_BLOCKS < self.blocks {
             return Err(Refusal::BadRun);
         }
-        if Run::marked_from(&self.marks, Run::markable(s)) {
+        if Run::marked_from(&marks, Run::markable(s)) {
             return Err(Refusal::BadRun);
         }
         Ok(s)
@@ -234,7 +236,9 @@ impl Run {
         if out.len() != 4 {
             return Err(Refusal::WrongLength(0));
         }
-        out.copy_from_slice(&self.marks);
+        // From a copy, which the compiler knows to lie apart from the buffer.
+        let marks = self.marks;
+        out.copy_from_slice(&marks);
         Ok(())
     }
 
