@@ -77,8 +77,8 @@ pub fn has_argument(rt: &impl Env, i: usize) -> bool {
 // The bytes of the longest name that a file is opened by.
 pub const LONGEST_NAME: usize = 4096;
 
-// What an argument names: standard input where it is missing or `-`, and else a file. Of a name that is longer than any file's only the first bytes
-// are there to be said.
+// What an argument names: standard input where it is missing or `-`, and else a file. Of a name that is longer than the room for it, and so than any
+// file's, only the first bytes are there to be said.
 #[derive(Clone, Copy)]
 pub enum Named<'a> {
     Standard,
@@ -87,8 +87,9 @@ pub enum Named<'a> {
 }
 
 impl<'a> Named<'a> {
-    pub fn by_argument(rt: &impl Env, i: usize, room: &'a mut [u8; LONGEST_NAME]) -> Named<'a>
-        ensures { length (said result) ≤ LONGEST_NAME }
+    pub fn by_argument(rt: &impl Env, i: usize, room: &'a mut [u8]) -> Named<'a>
+        requires { LONGEST_NAME ≤ length room.old }
+        ensures { length (said result) ≤ length room.old }
     {
         match rt.arg(i, room) {
             Ok(1) if room[0] == b'-' => Named::Standard,
