@@ -25,7 +25,7 @@ put_bytes xs ys bytes at n e long fit = record {
   keeps = same_len_mid at n xs ys (omega (arith, ap length e, length-take-le n (drop at xs) (omega (arith, length-drop at xs))));
 }
 
-put_put : {t u xs ys zs : List ℕ} {a b c : ℕ} → Put t xs a ys b → Put u ys b zs c → Put (t ++ u) xs a zs c
+pub put_put : {t u xs ys zs : List ℕ} {a b c : ℕ} → Put t xs a ys b → Put u ys b zs c → Put (t ++ u) xs a zs c
 put_put {t} {u} {xs} {ys} {zs} {a} {b} {c} p q = record {
   says = q.says ∙ ap (λ (l : List ℕ). l ++ u) p.says ∙ append_assoc (take a xs) t u;
   ends = simp length-append (omega arith);
@@ -44,9 +44,9 @@ pushed_more p q = record { put = put_put p.put q.put; same_buffer = q.same_buffe
 pub pushed_same : {t u : List ℕ} {a b : Text} → t ≡ u → Pushed u a b → Pushed t a b
 pushed_same {t} {u} {a} {b} e = subst (λ (t : List ℕ). Pushed t a b) (sym e)
 
--- from an empty text on, by what its buffer held and holds
-pub pushed_put : {t xs ys : List ℕ} {n : ℕ} {a b : Text} → Pushed t a b → a.out.now ≡ xs → a.len ≡ 0 → b.out.now ≡ ys → n ≡ b.len → Put t xs 0 ys n
-pushed_put p first none last long = rw (← first, ← none, ← last, long) p.put
+-- from a place on, by what the buffer held and holds
+pub pushed_put : {t xs ys : List ℕ} {at n : ℕ} {a b : Text} → Pushed t a b → a.out.now ≡ xs → a.len ≡ at → b.out.now ≡ ys → n ≡ b.len → Put t xs at ys n
+pushed_put p first place last long = rw (← first, ← place, ← last, long) p.put
 
 -- how far it reaches
 pub pushed_ends : {t : List ℕ} {a b : Text} → Pushed t a b → (n : ℕ) → length t ≤ n → b.len ≤ a.len + n
@@ -72,8 +72,10 @@ pub last_digit : (n : ℕ) → 10 ≤ n → n < 2 ^ 64 → decimal n ≡ decimal
 unfolding decimal_in
 last_digit n l h = rw (le-ltb n 10 l) (ap (λ (xs : List ℕ). xs ++ (digit (n % 10) ∷ [])) (more_digits 18 19 (n / 10) (omega (arith, h)) (omega arith)))
 
-pub two_digits : (n : ℕ) → 10 ≤ n → n < 100 → decimal n ≡ digit (n / 10) ∷ digit (n % 10) ∷ []
-two_digits n l h = last_digit n l (omega arith) ∙ ap (λ (xs : List ℕ). xs ++ (digit (n % 10) ∷ [])) (one_digit 19 (n / 10) (omega arith))
+-- of two
+pub two_digits : (most n : ℕ) → 10 ≤ n → n < 100 → decimal_in (suc (suc most)) n ≡ digit (n / 10) ∷ digit (n % 10) ∷ []
+unfolding decimal_in
+two_digits most n l h = simp (le-ltb n 10 l) (ap (λ (xs : List ℕ). xs ++ (digit (n % 10) ∷ [])) (one_digit most (n / 10) (omega arith)))
 
 -- how many there are,
 pub one_long : (n : ℕ) → n < 10 → length (decimal n) ≡ 1

@@ -20,6 +20,16 @@ impl<'a> Text<'a> {
         Text { out, len: 0 }
     }
 
+    // What stands in a buffer before a place, to push behind it.
+    pub fn behind(out: &'a mut [u8], place: usize) -> Text<'a>
+        requires { place ≤ length out.old }
+        ensures same_buffer { result.out.ghost_name ≡ out.entry.ghost_name }
+        ensures bytes { result.out.now ≡ out.old }
+        ensures behind { result.len ≡ place }
+    {
+        Text { out, len: place }
+    }
+
     pub fn len(&self) -> usize
         ensures { result ≡ self.now.len }
     {
