@@ -11,7 +11,8 @@ ghost use Rattle.replay.specs.Turns.{begun, part_of};
 use std::io;
 use std::io::{Read, Write};
 use std::process::ExitCode;
-use stream::{Failed, Named};
+use stream::{Failed, LONGEST_NAME, Named};
+use text::Text;
 
 // The bytes that a turn has room for.
 const ROOM: usize = 36 * records::BYTES;
@@ -70,12 +71,18 @@ fn replay(rt: &HostRuntime, named: &Named) -> Result<(), Failed> {
     replay_all(&mut io::writer(rt), &mut from)
 }
 
-// Why an input could not be opened or read. Its name need not be text, and is written as it is.
-fn say(rt: &HostRuntime, name: &[u8], why: io::Error) -> io::Result<()> {
-    let mut to = rt.stderr();
-    to.write_all(b"replay: ")?;
-    to.write_all(name)?;
-    eprintln!(rt; ": {why}")
+// What failed, and why. A file's name need not be text, and is written as it is, in one piece with the program's: other programs may write to the same
+// standard error. Where that takes nothing, no more can be done.
+fn say(rt: &HostRuntime, name: &[u8], why: io::Error)
+    requires { length name.now ≤ LONGEST_NAME }
+{
+    let mut room = [0u8; 8 + LONGEST_NAME];
+    let mut what = Text::new(&mut room);
+    what.push_text(b"replay: ");
+    what.push_text(name);
+    let end = what.len();
+    let _ = rt.stderr().write_all(&room[..end]);
+    let _ = eprintln!(rt; ": {why}");
 }
 
 fn main(rt: HostRuntime) -> ExitCode {
@@ -83,13 +90,12 @@ fn main(rt: HostRuntime) -> ExitCode {
         let _ = eprintln!(rt; "usage: replay [FILE]");
         return ExitCode::SUCCESS;
     }
-    let mut room = [0u8; stream::LONGEST_NAME];
+    let mut room = [0u8; LONGEST_NAME];
     let named = Named::by_argument(&rt, 1, &mut room);
-    // Where standard error takes nothing either, no more can be done.
-    let _ = match replay(&rt, &named) {
+    match replay(&rt, &named) {
         Ok(()) => return ExitCode::SUCCESS,
         Err(Failed::Input(why)) => say(&rt, named.as_bytes(), why),
-        Err(failed) => eprintln!(rt; "replay: {failed}"),
-    };
+        Err(Failed::Output(why)) => say(&rt, b"standard output", why),
+    }
     ExitCode::FAILURE
 }
