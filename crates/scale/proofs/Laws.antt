@@ -98,7 +98,7 @@ pub by_one : (s side : ℕ) → output_length s side ≡ output_length 1 side * 
 by_one s side = ap (λ (n : ℕ). n * s) (sym (mul-one (if side =? 0 then 16 else 8)))
 
 -- byte j of chosen lane number k
-abbrev chosen_byte : (side b t : ℕ) → List ℕ → (k j : ℕ) → ℕ
+abbrev pub chosen_byte : (side b t : ℕ) → List ℕ → (k j : ℕ) → ℕ
 chosen_byte side b t m k j = byte_of (get_or m (get_or (chosen_lanes side t) k 0) 0) (b + j)
 
 -- the chosen bytes and the output, by number
@@ -114,7 +114,7 @@ module _ (s side b t : ℕ) (m : List ℕ) (ok : Says (legal_thread_id side t)) 
   unfolding scaled
   scaled_length = length-map (chosen_bytes s side b t m) exponent ∙ chosen_length
 
-  chosen_tab : 0 < s → chosen_bytes s side b t m ≡ tab (output_length s side) (blocks s (chosen_byte side b t m))
+  pub chosen_tab : 0 < s → chosen_bytes s side b t m ≡ tab (output_length s side) (blocks s (chosen_byte side b t m))
   unfolding chosen_bytes
   chosen_tab s0 =
       is_tab (output_length s side) (blocks s (chosen_byte side b t m)) (chosen_bytes s side b t m) 0 chosen_length

@@ -25,6 +25,13 @@ bytes_fit s b ok = ⊎_elim (λ p. ⊎_elim one two p) four ok
     four : (s ≡ 4) × (b ≡ 0) → (0 < s) × (b + s ≤ 4)
     four p = (omega arith, omega arith)
 
+-- and which size it is: 4 begins at the low byte, and what is neither 4 nor 2 is 1
+pub at_low : (s b : ℕ) → Says (legal_byte_id s b) → s ≡ 4 → b ≡ 0
+at_low s b ok e = ⊎_elim (λ p. ⊎_elim (λ q. omega arith) (λ q. omega arith) p) (λ p. p.1) ok
+
+pub is_one : (s b : ℕ) → Says (legal_byte_id s b) → ¬ (s ≡ 4) → ¬ (s ≡ 2) → s ≡ 1
+is_one s b ok n4 n2 = ⊎_elim (λ p. ⊎_elim (λ q. q.0) (λ q. absurd (n2 q.0)) p) (λ p. absurd (n4 p.0)) ok
+
 -- a thread-id that a side allows
 module _ (side t : ℕ) (ok : Says (legal_thread_id side t)) where
   pub thread_A : side ≡ 0 → t < 2
