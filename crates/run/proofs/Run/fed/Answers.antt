@@ -22,10 +22,16 @@ slice_bounds-d-end c = omega (arith, inside (goal.at.slice_bounds-d-end c).After
 pub slice_bounds-work-end-2 : goal.slice_bounds-work-end-2
 slice_bounds-work-end-2 c = sym (length-take-le _ _ (omega (arith, inside (goal.at.slice_bounds-work-end-2 c).After-lengths-n)))
 
+-- C and D each by words of its own, so that other words for one of them are refused for what they hold
 pub work-requires-clause-sized : goal.work-requires-clause-sized
 work-requires-clause-sized c =
-    let long = length-take-le _ _ (omega (arith, inside (goal.at.work-requires-clause-sized c).After-lengths-n)) ∙ c.lengths-n.ensures.2 in
-    record { of_a = c.requires.a_len.0; of_b = c.requires.a_len.1; of_c = long; of_d = long }
+    let among = inside (goal.at.work-requires-clause-sized c).After-lengths-n in
+    record {
+      of_a = c.requires.a_len.0;
+      of_b = c.requires.a_len.1;
+      of_c = length-take-le _ _ (omega (arith, among)) ∙ c.lengths-n.ensures.2;
+      of_d = length-take-le _ _ (omega (arith, among)) ∙ c.lengths-n.ensures.2;
+    }
 
 pub returns : goal.returns
 returns c =
