@@ -214,8 +214,10 @@ impl Run {
     {
         let s = self.judge()?;
         Run::judge_sums(s, d.len())?;
+        // From a copy made here, without which the compiler copies the sums before the run is judged.
+        let sums = self.sums;
         let n = d.len();
-        d.copy_from_slice(&self.sums[..n]);
+        d.copy_from_slice(&sums[..n]);
         Ok(())
     }
 
